@@ -1,0 +1,4 @@
+pub mod CommandLaws
+pub mod Guards
+pub mod ReadingLaws
+pub mod Tables

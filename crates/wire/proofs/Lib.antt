@@ -1,0 +1,3 @@
+pub mod OneBit
+pub mod Roundtrip
+pub mod Shifts

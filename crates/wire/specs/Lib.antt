@@ -1,0 +1,3 @@
+pub mod Formats
+pub mod Refusals
+pub mod Words

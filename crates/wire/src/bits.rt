@@ -1,0 +1,23 @@
+// Shifts and masks, with what they do to numbers.
+ghost use mathlib.Core.Path.{_≡_};
+ghost use Prim.Native.Nat.{_+_, _*_, _%_, _^_};
+
+// The low bits of a number.
+pub fn low(x: u64, bits: u32) -> u64
+    ensures { λ r. ⌜ r ≡ x % 2 ^ bits ⌝ }
+{
+    if bits >= 64 {
+        return x;
+    }
+    x & ((1 << bits) - 1)
+}
+
+// The low bits of a number with another number above them, as far as 64 bits hold it.
+pub fn join(high: u64, bits: u32, x: u64) -> u64
+    ensures { λ r. ⌜ r ≡ (high * 2 ^ bits + x % 2 ^ bits) % 2 ^ 64 ⌝ }
+{
+    if bits >= 64 {
+        return x;
+    }
+    high << bits | low(x, bits)
+}
