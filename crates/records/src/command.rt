@@ -6,7 +6,7 @@ pub mod text;
 pub mod values;
 
 // A command that the table takes.
-#[derive(Clone, Copy)]
+#[derive(Clone, Copy, PartialEq, Eq, Debug)]
 pub struct Command {
     code: u8,
     argument: u32,

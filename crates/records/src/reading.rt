@@ -13,7 +13,7 @@ pub enum Side {
 }
 
 // One measurement at a wheel: axle 1 to 12, force in units of 10 newtons, pressure in hundredths of a bar.
-#[derive(Clone, Copy)]
+#[derive(Clone, Copy, PartialEq, Eq, Debug)]
 pub struct Reading {
     axle: u8,
     side: Side,

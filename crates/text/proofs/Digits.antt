@@ -68,7 +68,7 @@ digits-from (suc n) x h =
     ∙ ap (λ o. next o (λ d. Some (q * 16 + d))) (digit-back (x % 16) (omega arith))
     ∙ ap Some e
 
-length-digits : (n x : ℕ) → length (hexDigits n x) ≡ n
+pub length-digits : (n x : ℕ) → length (hexDigits n x) ≡ n
 length-digits zero x = refl
 length-digits (suc n) x = length-append (hexDigits n (x / 16)) (hexDigit (x % 16) ∷ []) ∙ omega (arith, length-digits n (x / 16))
 

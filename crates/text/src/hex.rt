@@ -21,6 +21,12 @@ pub fn parse_hex(digits: &[u8]) -> Option<u64>
     ensures value { λ r. ⌜ r ≡ hexNumber (now (digits .entry)) ⌝ }
     ensures back { λ _. ⌜ DigitsRead ⌝ }
 {
+    number_in(digits)
+}
+
+fn number_in(digits: &[u8]) -> Option<u64>
+    ensures { λ r. ⌜ r ≡ hexNumber (now (digits .entry)) ⌝ }
+{
     if digits.len() > 16 {
         return None;
     }

@@ -1,6 +1,7 @@
 ghost use mathlib.Core.Path.{_≡_};
 ghost use mathlib.Core.List.{[], _∷_};
 ghost use Prim.Native.Nat.{_<_, _≤_};
+ghost use lib.Dec.{eqb};
 ghost use lib.ListN.{length};
 ghost use Rattle.std.specs.Options.{Cases};
 ghost use Rattle.text.specs.Lines.{lineLength, lineOf, restOf, linesOf};
@@ -27,9 +28,15 @@ fn line_length(text: &[u8]) -> usize
     ensures bound { λ r. ⌜ r ≤ length (now (text .entry)) ⌝ }
 {
     for (i, byte) in text.iter().enumerate() {
-        if *byte == b'\n' {
+        if is_line_end(*byte) {
             return i;
         }
     }
     text.len()
+}
+
+fn is_line_end(byte: u8) -> bool
+    ensures { λ r. ⌜ r ≡ eqb byte 10 ⌝ }
+{
+    byte == b'\n'
 }

@@ -15,14 +15,18 @@ upper w = w .label * 2 ^ 40 + w .kind * 2 ^ 36 + w .payload
 abbrev pub packed : Word → ℕ
 packed w = checked narrow (upper w)
 
--- label, kind and payload as they stand in 64 bits
-abbrev pub carried : ℕ → Word
-carried bits = record {
-  label = bits / 2 ^ 56 % 2 ^ 8;
-  kind = bits / 2 ^ 52 % 2 ^ 4;
-  payload = bits / 2 ^ 16 % 2 ^ 36;
+-- the word of a label, a kind and a payload, each as far as its field holds it
+abbrev pub wordOf : ℕ → ℕ → ℕ → Word
+wordOf label kind payload = record {
+  label = label % 2 ^ 8;
+  kind = kind % 2 ^ 4;
+  payload = payload % 2 ^ 36;
   fits = (omega arith, omega arith, omega arith);
 }
+
+-- label, kind and payload as they stand in 64 bits
+abbrev pub carried : ℕ → Word
+carried bits = wordOf (bits / 2 ^ 56) (bits / 2 ^ 52) (bits / 2 ^ 16)
 
 abbrev pub given : {T : Type 0} → Bool → T → Option T
 given true x = Some x
@@ -35,6 +39,6 @@ reads bits = given (whole narrow bits) (carried bits)
 abbrev pub acknowledges : Word → Bool
 acknowledges w = eqb (w .kind) 0 && eqb (w .payload) 0
 
--- the label stands in a byte
+-- kind 0 and payload 0 are no record: they acknowledge the label
 abbrev pub acknowledgement : ℕ → Word
-acknowledgement label = record { label = label % 2 ^ 8; kind = 0; payload = 0; fits = (omega arith, omega arith, omega arith) }
+acknowledgement label = wordOf label 0 0

@@ -1,5 +1,5 @@
 ghost use mathlib.Core.Path.{_≡_};
-ghost use Prim.Native.Nat.{_≤_, _<_, _^_};
+ghost use Prim.Native.Nat.{_/_, _%_, _^_, _≤_, _<_};
 ghost use Rattle.std.specs.Slices.{found};
 ghost use Rattle.std.specs.declared.option.Option.the-variants.{Some};
 ghost use Rattle.wire.specs.Formats.{narrow, check, whole, OneBit};
@@ -16,7 +16,7 @@ impl Word {
     pub fn acknowledge(label: u8) -> Word
         ensures { λ r. ⌜ r ≡ acknowledgement label ⌝ }
     {
-        Word { label, kind: 0, payload: 0 }
+        bare(label)
     }
 
     // Whether it acknowledges its label, and so carries no record.
@@ -44,9 +44,9 @@ impl Word {
             return None;
         }
         Some(Word {
-            label: (bits >> 56) as u8,
-            kind: low(bits >> 52, 4) as u8,
-            payload: low(bits >> 16, 36),
+            label: label_in(bits),
+            kind: kind_in(bits),
+            payload: payload_in(bits),
         })
     }
 
@@ -64,6 +64,32 @@ pub fn is_whole(bits: u64) -> bool
     ensures detects { λ _. ⌜ OneBit narrow ⌝ }
 {
     low(bits, 16) == check_of(bits >> 16)
+}
+
+fn label_in(bits: u64) -> u8
+    ensures { λ r. ⌜ r ≡ bits / 2 ^ 56 % 2 ^ 8 ⌝ }
+{
+    (bits >> 56) as u8
+}
+
+fn kind_in(bits: u64) -> u8
+    ensures { λ r. ⌜ r ≡ bits / 2 ^ 52 % 2 ^ 4 ⌝ }
+{
+    low(bits >> 52, 4) as u8
+}
+
+fn payload_in(bits: u64) -> u64
+    ensures { λ r. ⌜ r ≡ bits / 2 ^ 16 % 2 ^ 36 ⌝ }
+{
+    low(bits >> 16, 36)
+}
+
+fn bare(label: u8) -> Word
+    ensures label { λ r. ⌜ r .label ≡ label ⌝ }
+    ensures kind { λ r. ⌜ r .kind ≡ 0 ⌝ }
+    ensures payload { λ r. ⌜ r .payload ≡ 0 ⌝ }
+{
+    Word { label, kind: 0, payload: 0 }
 }
 
 fn check_of(v: u64) -> u64

@@ -1,7 +1,6 @@
 use mathlib.Core.Path.{_≡_, sym, ap, ap₂, _∙_}
 use mathlib.Core.Bool.{true}
 use Prim.Native.Nat.{_<_, _^_}
-use native.Mathlib.Nat.{mod-eq-of-lt}
 use native.Mathlib.Omega.{arith}
 use Rattle.wire.specs.Formats.{narrow, whole}
 use Rattle.wire.specs.Words.{packed, carried, given}
@@ -13,5 +12,5 @@ returns c =
     let bits = c .args .bits in
     let small : bits < 2 ^ 64 = omega arith in
     let e : true ≡ whole narrow bits = c .if-not-is-whole .ensures tt .value in
-    let same = word-ext _ (carried bits) (sym (mod-eq-of-lt (omega arith))) (c .low .ensures) (c .low-2 .ensures) in
+    let same = word-ext _ (carried bits) (c .label-in .ensures) (c .kind-in .ensures) (c .payload-in .ensures) in
     record { value = ap₂ given e same; once = ap packed same ∙ reads-once bits small (sym e) }

@@ -1,0 +1,4 @@
+pub mod Decoding
+pub mod Reports
+pub mod Tallies
+pub mod Texts

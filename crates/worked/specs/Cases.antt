@@ -1,0 +1,45 @@
+-- The sorts of worked case, and when one passes. Assumes nothing.
+use mathlib.Core.Bool.{Bool, true, false, _&&_, not}
+use mathlib.Core.List.{List, [], _∷_}
+use Prim.Native.Nat.{ℕ}
+use lib.Dec.{eqb}
+use Rattle.std.specs.Options.{isSome}
+use Rattle.std.specs.declared.option.Option.{Option}
+use Rattle.std.specs.declared.option.Option.the-variants.{Some, None}
+use Rattle.wire.specs.Formats.{narrow, whole}
+use Rattle.wire.specs.Words.{wordOf, acknowledgement, packed}
+use Rattle.records.specs.declared.reading.Reading.{Reading}
+use Rattle.records.specs.declared.reading.Side.{Side}
+use Rattle.records.specs.Commands.{commandOf}
+use Rattle.records.specs.Readings.{readingOf, readingPayload}
+
+pub data Case : Type 0 where
+  -- the acknowledgement of a label is this word
+  acknowledges : (label bits : ℕ) → Case
+  -- a reading under a label is this word
+  carries : (label axle : ℕ) (side : Side) (force pressure bits : ℕ) → Case
+  -- a word is not whole
+  broken : (bits : ℕ) → Case
+  -- four values are a reading, or are none
+  reading : (axle : ℕ) (side : Side) (force pressure : ℕ) → Case
+  noReading : (axle : ℕ) (side : Side) (force pressure : ℕ) → Case
+  -- a code takes an argument, or does not
+  command : (code argument : ℕ) → Case
+  noCommand : (code argument : ℕ) → Case
+
+abbrev pub readingWord : ℕ → ℕ → Option Reading → Bool
+readingWord label bits (Some r) = eqb (packed (wordOf label 2 (readingPayload r))) bits && whole narrow bits
+readingWord label bits None = false
+
+abbrev pub passes : Case → Bool
+passes (acknowledges label bits) = eqb (packed (acknowledgement label)) bits && whole narrow bits
+passes (carries label axle side force pressure bits) = readingWord label bits (readingOf axle side force pressure)
+passes (broken bits) = not (whole narrow bits)
+passes (reading axle side force pressure) = isSome (readingOf axle side force pressure)
+passes (noReading axle side force pressure) = not (isSome (readingOf axle side force pressure))
+passes (command code argument) = isSome (commandOf code argument)
+passes (noCommand code argument) = not (isSome (commandOf code argument))
+
+abbrev pub allPass : List Case → Bool
+allPass [] = true
+allPass (c ∷ cs) = passes c && allPass cs

@@ -1,0 +1,20 @@
+-- The worked cases. Assumes nothing.
+use mathlib.Core.List.{List, [], _∷_}
+use Rattle.records.specs.declared.reading.Side.the-variants.{Left, Right}
+use Rattle.worked.specs.Cases.{Case, acknowledges, carries, broken, reading, noReading, command, noCommand}
+
+abbrev pub cases : List Case
+cases =
+    acknowledges 0 0x000000000000FFF1
+    ∷ acknowledges 1 0x0100000000001EF1
+    ∷ acknowledges 3 0x0300000000005CD3
+    ∷ carries 5 2 Right 1250 640 0x052282711400C3BC
+    ∷ broken 0x0100000000001EF0
+    -- axle 12 is a reading, 13 is not
+    ∷ reading 12 Left 0 0
+    ∷ noReading 13 Left 0 0
+    -- run at 6.0 km/h is a command, at 6.1 and at 0 it is not
+    ∷ command 2 60
+    ∷ noCommand 2 61
+    ∷ noCommand 2 0
+    ∷ []
