@@ -1,4 +1,5 @@
 ghost use mathlib.Core.Path.{_≡_};
+ghost use Prim.Native.Nat.{_%_, _^_};
 ghost use Rattle.records.specs.Readings.{readingPayload, readingReads};
 use super::Reading;
 use super::Side;
@@ -37,7 +38,7 @@ pub impl RecordKind for Readings as ReadingsKind {
         let axle = p >> 32;
         let force = low(p >> 15, 16);
         let pressure = low(p >> 3, 12);
-        if low(p, 3) != 0 {
+        if spare_in(p) != 0 {
             return Err(Refusal::Code);
         }
         if !in_range(axle, force, pressure) {
@@ -50,4 +51,11 @@ pub impl RecordKind for Readings as ReadingsKind {
             pressure: pressure as u16,
         })
     }
+}
+
+// The bits of a payload that no field of a reading takes.
+fn spare_in(p: u64) -> u64
+    ensures { λ r. ⌜ r ≡ p % 2 ^ 3 ⌝ }
+{
+    low(p, 3)
 }

@@ -6,4 +6,4 @@ use Rattle.records.proofs.reading.kind.ReadingsKind.unpack.Needs as need
 
 pub returns : need.returns
 returns c =
-    sym (ap orCode (fields-read (c .args .p) _ (sym (c .low .ensures) ∙ c .if-low-ne0 .left) refl (ap sideOf (sym (c .low-2 .ensures)) ∙ sym (c .of-bit .ensures)) (sym (c .low-force .ensures)) (sym (c .low-pressure .ensures))))
+    sym (ap orCode (fields-read (c .args .p) _ (sym (c .spare-in .ensures) ∙ c .if-spare-in-ne0 .left) refl (ap sideOf (sym (c .low .ensures)) ∙ sym (c .of-bit .ensures)) (sym (c .low-force .ensures)) (sym (c .low-pressure .ensures))))
