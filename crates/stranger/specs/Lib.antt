@@ -1,0 +1,2 @@
+pub mod HoleRules
+pub mod Holes
