@@ -1,0 +1,10 @@
+pub mod Codec
+pub mod State
+pub mod Changes
+pub mod Steps
+pub mod Runs
+pub mod Check
+pub mod Tallies
+pub mod Findings
+pub mod Promise
+pub mod Example
