@@ -1,0 +1,4 @@
+pub mod Faults
+pub mod Makings
+pub mod States
+pub mod Words
