@@ -3,7 +3,8 @@ pub mod calls;
 pub mod faults;
 pub mod making;
 pub mod observing;
-pub mod words;
+mod parts;
+mod words;
 
 use records::RecordKind;
 use recovery::Observer;

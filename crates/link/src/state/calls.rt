@@ -1,18 +1,14 @@
 // The six calls of a link. Each performs one step of a run.
 ghost use mathlib.Core.Path.{_≡_};
 ghost use Rattle.recovery.specs.Steps.{Offer, Send, Hear, Settle, Ticks, Round};
-ghost use lib.Dec.{eqb};
 ghost use Rattle.link.specs.Words.{codec};
-ghost use Rattle.link.specs.States.{behaviourOf, decided, stateOf};
+ghost use Rattle.link.specs.States.{behaviourOf, stateOf};
 use super::Link;
 use super::observing::after_exchange;
-use super::words::ack_word;
+use super::parts::decide;
 use channel::Channel;
 use records::Fixed;
 use records::RecordKind;
-use recovery::Receiver;
-use recovery::Sender;
-use recovery::State;
 use wire::Refusal;
 
 impl<F: Channel, B: Channel, R: RecordKind> Link<F, B, R> {
@@ -20,28 +16,22 @@ impl<F: Channel, B: Channel, R: RecordKind> Link<F, B, R> {
     pub fn offer(&mut self, r: R::Record) -> Result<(), Refusal>
         ensures { λ a. ⌜ Offer (codec (Number·Fixed .worth) (R·RecordKind .payload) (R·RecordKind .reads)) (behaviourOf F·Channel) (behaviourOf B·Channel) (stateOf (now (self .entry))) r a (stateOf (now (self .exit))) ⌝ }
     {
-        match self.sender.state {
-            State::UnderWay => Err(Refusal::Busy),
-            State::Idle => {
-                let label = self.config.next_label(self.sender.label);
-                self.sender = Sender { label, state: State::UnderWay, in_hand: r };
-                Ok(())
-            }
+        if self.is_busy() {
+            return Err(Refusal::Busy);
         }
+        self.take_in_hand(r);
+        Ok(())
     }
 
     // Puts the word of the record in hand on the forward channel; refused `idle` when none is under way.
     pub fn send(&mut self) -> Result<(), Refusal>
         ensures { λ a. ⌜ Send (codec (Number·Fixed .worth) (R·RecordKind .payload) (R·RecordKind .reads)) (behaviourOf F·Channel) (behaviourOf B·Channel) (stateOf (now (self .entry))) a (stateOf (now (self .exit))) ⌝ }
     {
-        match self.sender.state {
-            State::Idle => Err(Refusal::Idle),
-            State::UnderWay => {
-                let label = self.config.read_label(self.sender.label);
-                let word = self.config.send_word(label, &self.sender.in_hand);
-                self.forward.put(word)
-            }
+        if !self.is_busy() {
+            return Err(Refusal::Idle);
         }
+        let word = self.word_in_hand();
+        self.put_word(word)
     }
 
     // Takes a word from the forward channel and acknowledges it; a new label is adopted and its record delivered.
@@ -56,11 +46,11 @@ impl<F: Channel, B: Channel, R: RecordKind> Link<F, B, R> {
             return (Err(Refusal::Spoilt), Err(Refusal::Silent));
         };
         let label = message.0;
-        let reply = self.back.put(ack_word(label));
-        if label == self.config.read_label(self.receiver.label) {
+        let reply = self.reply(label);
+        if self.is_repeat(label) {
             return (Err(Refusal::Repeat), reply);
         }
-        self.receiver = Receiver { label, delivered: message.1 };
+        self.deliver(label, message.1);
         (Ok(()), reply)
     }
 
@@ -77,7 +67,7 @@ impl<F: Channel, B: Channel, R: RecordKind> Link<F, B, R> {
         let own = self.config.read_label(self.sender.label);
         match decide(self.sender.state, label, own) {
             Ok(()) => {
-                self.sender.state = State::Idle;
+                self.rest();
                 let clean = self.is_clean();
                 self.observer = after_exchange(self.observer, clean);
                 Ok(())
@@ -104,15 +94,5 @@ impl<F: Channel, B: Channel, R: RecordKind> Link<F, B, R> {
         let settled = self.settle();
         let _ = self.tick();
         (sent, heard, settled)
-    }
-}
-
-// Under way and with the sender's own label, an acknowledgement completes the exchange; any other is stale.
-fn decide(state: State, label: u8, own: u8) -> Result<(), Refusal>
-    ensures { λ r. ⌜ r ≡ decided state (eqb label own) ⌝ }
-{
-    match (state, label) {
-        (State::UnderWay, l) if l == own => Ok(()),
-        _ => Err(Refusal::Stale),
     }
 }

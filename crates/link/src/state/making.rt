@@ -82,6 +82,6 @@ impl<F: Channel, B: Channel, R: RecordKind> Link<F, B, R> {
         ensures after { λ _. ⌜ stateOf (now (self .exit)) ≡ observedAnew (stateOf (now (self .entry))) ⌝ }
         ensures recovers { λ _. ⌜ (checkedLink (codec (Number·Fixed .worth) (R·RecordKind .payload) (R·RecordKind .reads)) (behaviourOf F·Channel) (behaviourOf B·Channel) 256 (stateOf (now (self .exit))) ≡ Ok tt → Recovers (codec (Number·Fixed .worth) (R·RecordKind .payload) (R·RecordKind .reads)) (behaviourOf F·Channel) (behaviourOf B·Channel) (stateOf (now (self .exit)))) ⌝ }
     {
-        self.observer = Observer { completed: 0, first: 0 };
+        self.count_anew();
     }
 }

@@ -1,9 +1,9 @@
 use Rattle.recovery.specs.Steps.{busy}
-use Rattle.link.proofs.Calls.{offer-done}
+use Rattle.link.proofs.Calls.{busy-state, offer-done}
 use Rattle.link.proofs.state.Link.offer.Needs as need
 
-pub returns-in-UnderWay : need.returns-in-UnderWay
-returns-in-UnderWay g c = busy (c .in-UnderWay .is)
+pub returns-then-is-busy : need.returns-then-is-busy
+returns-then-is-busy g c = busy (busy-state (c .args .self .now .sender .state) (c .if-is-busy .ensures tt))
 
-pub returns-in-Idle : need.returns-in-Idle
-returns-in-Idle g c = offer-done _ _ _ _ (c .args .r) (c .next-label-label .result) (c .in-Idle .is) (c .next-label-label .ensures)
+pub returns : need.returns
+returns g c = offer-done _ _ _ _ (c .args .r) _ (c .if-is-busy .ensures tt) (c .take-in-hand .ensures)

@@ -1,6 +1,7 @@
-use mathlib.Core.Path.{_∙_, sym}
+use mathlib.Core.Path.{sym}
 use Rattle.recovery.specs.Steps.Settle.{silent, spoilt}
-use Rattle.link.proofs.Calls.{completed-by, settle-done, settle-stale}
+use Rattle.link.specs.States.{stateOf}
+use Rattle.link.proofs.Calls.{settle-done, settle-stale}
 use Rattle.link.proofs.state.Link.settle.Needs as need
 
 pub returns-in-rest : need.returns-in-rest
@@ -11,8 +12,8 @@ returns-in-rest-read-ack g c = spoilt (c .in-Ok .ensures tt) (sym (c .in-rest-re
 
 pub returns-in-Ok-decide : need.returns-in-Ok-decide
 returns-in-Ok-decide g c =
-    let by = completed-by (c .args .self .now .sender .state) (c .in-Some .label) (c .read-label-own .result) (c .in-Ok-decide .ensures tt) in
-    settle-done _ _ _ _ (c .in-Ok .word) (c .in-Some .label) _ (c .is-clean-clean .result) _ (c .in-Ok .ensures tt) (c .in-Some .ensures tt) (by .1 ∙ c .read-label-own .ensures) (by .0) (c .is-clean-clean .ensures) (c .after-exchange-self .ensures)
+    settle-done _ _ _ (stateOf (c .args .self .now)) (c .in-Ok .word) (c .in-Some .label) (c .read-label-own .result) (c .take .last .self) (c .is-clean-clean .result) (c .after-exchange-self .result) (stateOf (c .rest .last .self))
+    (c .in-Ok .ensures tt) (c .in-Some .ensures tt) (c .read-label-own .ensures) (c .in-Ok-decide .ensures tt) (c .rest .ensures) (c .is-clean-clean .ensures) (c .after-exchange-self .ensures)
 
 pub returns-in-Err : need.returns-in-Err
 returns-in-Err g c =
