@@ -4,6 +4,7 @@ pub mod faults;
 pub mod making;
 pub mod observing;
 mod parts;
+pub mod readers;
 mod words;
 
 use records::RecordKind;
