@@ -13,6 +13,7 @@ use recovery::Receiver;
 use recovery::Sender;
 
 // What is fixed when a link is made: its record kind, and how many labels it has.
+#[derive(Drop)]
 pub struct Config<R> {
     kind: R,
     labels: u16,
@@ -20,6 +21,7 @@ pub struct Config<R> {
 }
 
 // A sender, a receiver, a channel each way between them, and an observer that counts completed exchanges.
+#[derive(Drop)]
 pub struct Link<F, B, R: RecordKind> {
     config: Config<R>,
     sender: Sender<R::Record>,

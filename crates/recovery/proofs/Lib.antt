@@ -10,7 +10,7 @@ mod Weights
 mod FirstClean
 mod RoundsLeft
 mod Completion
-mod Observed
+pub mod Observed
 pub mod PassedCheck
 pub mod Recovery
 mod Example

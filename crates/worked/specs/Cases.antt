@@ -6,12 +6,16 @@ use lib.Dec.{eqb}
 use Rattle.std.specs.Options.{isSome}
 use Rattle.std.specs.declared.option.Option.{Option}
 use Rattle.std.specs.declared.option.Option.the-variants.{Some, None}
+use Rattle.wire.specs.Refusals.{answerOf}
 use Rattle.wire.specs.Formats.{narrow, whole}
 use Rattle.wire.specs.Words.{wordOf, acknowledgement, packed}
 use Rattle.records.specs.declared.reading.Reading.{Reading}
 use Rattle.records.specs.declared.reading.Side.{Side}
 use Rattle.records.specs.Commands.{commandOf}
 use Rattle.records.specs.Readings.{readingOf, readingPayload}
+use Rattle.channel.specs.Meaning.{Meaning}
+use Rattle.recovery.specs.Check.{checked}
+use Rattle.recovery.specs.Findings.{mostRounds}
 
 pub data Case : Type 0 where
   -- the acknowledgement of a label is this word
@@ -26,6 +30,12 @@ pub data Case : Type 0 where
   -- a code takes an argument, or does not
   command : (code argument : ℕ) → Case
   noCommand : (code argument : ℕ) → Case
+  -- a channel has this capacity, delay and number of losses left
+  channel : (m : Meaning) (capacity delay losses : ℕ) → Case
+  -- a link over two channels answers its check of a label count by this number
+  checks : (forward back : Meaning) (labels answer : ℕ) → Case
+  -- an exchange over two channels is completed within so many rounds
+  rounds : (forward back : Meaning) (most : ℕ) → Case
 
 abbrev pub readingWord : ℕ → ℕ → Option Reading → Bool
 readingWord label bits (Some r) = eqb (packed (wordOf label 2 (readingPayload r))) bits && whole narrow bits
@@ -39,6 +49,9 @@ passes (reading axle side force pressure) = isSome (readingOf axle side force pr
 passes (noReading axle side force pressure) = not (isSome (readingOf axle side force pressure))
 passes (command code argument) = isSome (commandOf code argument)
 passes (noCommand code argument) = not (isSome (commandOf code argument))
+passes (channel m capacity delay losses) = eqb (m .capacity) capacity && (eqb (m .delay) delay && eqb (m .losses) losses)
+passes (checks forward back labels answer) = eqb (answerOf (checked 256 labels forward back)) answer
+passes (rounds forward back most) = eqb (mostRounds forward back) most
 
 abbrev pub allPass : List Case → Bool
 allPass [] = true

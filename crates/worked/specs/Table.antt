@@ -1,7 +1,8 @@
 -- The worked cases. Assumes nothing.
 use mathlib.Core.List.{List, [], _∷_}
 use Rattle.records.specs.declared.reading.Side.the-variants.{Left, Right}
-use Rattle.worked.specs.Cases.{Case, acknowledges, carries, broken, reading, noReading, command, noCommand}
+use Rattle.setups.specs.Setups.{firstForward, firstBack, secondForward, secondBack}
+use Rattle.worked.specs.Cases.{Case, acknowledges, carries, broken, reading, noReading, command, noCommand, channel, checks, rounds}
 
 abbrev pub cases : List Case
 cases =
@@ -17,4 +18,14 @@ cases =
     ∷ command 2 60
     ∷ noCommand 2 61
     ∷ noCommand 2 0
+    -- the channels of the second set-up: eight places, and three losses in all
+    ∷ channel secondForward 5 2 2
+    ∷ channel secondBack 3 0 1
+    -- two rings of 1 take four labels, and refuse three as too few
+    ∷ checks firstForward firstBack 4 0
+    ∷ checks firstForward firstBack 3 3
+    ∷ checks secondForward secondBack 10 0
+    ∷ checks secondForward secondBack 9 3
+    -- over the second set-up an exchange takes a hundred rounds at the most
+    ∷ rounds secondForward secondBack 100
     ∷ []
