@@ -1,3 +1,6 @@
+use crate::steps::Fault;
+use crate::steps::Step;
+use crate::steps::perform;
 use link::Link;
 use link::State;
 use queues::Ring;
@@ -5,22 +8,19 @@ use queues::RingChannel;
 use records::Command;
 use records::Commands;
 use records::CommandsKind;
-use records::command::CommandDebug;
-use records::command::CommandPartialEq;
-use recovery::ends::StateDebug;
-use recovery::ends::StatePartialEq;
 use std::test::*;
 use wire::Refusal;
-use wire::Word;
 use wire::refusal::RefusalDebug;
-use wire::refusal::RefusalPartialEq;
+use wire::Word;
 
-type Bench = Link<Ring, Ring, Commands>;
+const DONE: Result<(), Refusal> = Ok(());
+const SILENT: Result<(), Refusal> = Err(Refusal::Silent);
 
-// Two rings of these capacities, and this many labels.
-fn bench(forward: u16, back: u16, labels: u16) -> Result<Bench, Fail> {
+// The steps over two rings of these capacities with this many labels.
+fn over(forward: u16, back: u16, labels: u16, steps: &[Step]) -> Result<(), Fail> {
     let stop = Command::new(1, 0)?;
-    Ok(Link::new(Commands, labels, Ring::new(forward), Ring::new(back), stop))
+    let mut link = Link::new(Commands, labels, Ring::new(forward), Ring::new(back), stop);
+    perform(&mut link, steps)
 }
 
 // The word of a stop command under a label.
@@ -30,113 +30,132 @@ fn stop_word(label: u8) -> u64 {
 
 #[test]
 fn an_exchange_call_by_call() -> Result<(), Fail> {
-    let mut link = bench(1, 1, 4)?;
     let run = Command::new(2, 50)?;
-    check_eq(link.send(), Err(Refusal::Idle))?;
-    check_eq(link.hear(), (Err(Refusal::Silent), Err(Refusal::Silent)))?;
-    check_eq(link.settle(), Err(Refusal::Silent))?;
-    check_eq(link.offer(run), Ok(()))?;
-    check_eq(link.offer(run), Err(Refusal::Busy))?;
-    check_eq(link.send(), Ok(()))?;
-    check_eq(link.send(), Err(Refusal::Full))?;
-    check_eq(link.hear(), (Ok(()), Ok(())))?;
-    check_eq(link.receiver().delivered, run)?;
-    check_eq(link.receiver().label, 1)?;
-    check_eq(link.settle(), Ok(()))?;
-    check_eq(link.sender().state, State::Idle)?;
-    check(link.is_clean())?;
-    check_eq(link.tick(), Ok(()))
+    let steps = [
+        Step::Send(Err(Refusal::Idle)),
+        Step::Hear(SILENT, SILENT),
+        Step::Settle(SILENT),
+        Step::Offer(run, DONE),
+        Step::Offer(run, Err(Refusal::Busy)),
+        Step::Send(DONE),
+        Step::Send(Err(Refusal::Full)),
+        Step::Hear(DONE, DONE),
+        Step::Receiver(1, run),
+        Step::Settle(DONE),
+        Step::Sender(1, State::Idle),
+        Step::Clean(true),
+        Step::Tick,
+        Step::Observed(1, 1),
+    ];
+    over(1, 1, 4, &steps)
 }
 
 #[test]
 fn a_repeat_is_acknowledged_again() -> Result<(), Fail> {
-    let mut link = bench(2, 2, 6)?;
-    check_eq(link.offer(Command::new(4, 0)?), Ok(()))?;
-    check_eq(link.send(), Ok(()))?;
-    check_eq(link.send(), Ok(()))?;
-    check_eq(link.hear(), (Ok(()), Ok(())))?;
-    check_eq(link.hear(), (Err(Refusal::Repeat), Ok(())))?;
-    check_eq(link.settle(), Ok(()))?;
-    check_eq(link.settle(), Err(Refusal::Stale))
+    let zero = Command::new(4, 0)?;
+    let steps = [
+        Step::Offer(zero, DONE),
+        Step::Send(DONE),
+        Step::Send(DONE),
+        Step::Hear(DONE, DONE),
+        Step::Hear(Err(Refusal::Repeat), DONE),
+        Step::Settle(DONE),
+        Step::Settle(Err(Refusal::Stale)),
+    ];
+    over(2, 2, 6, &steps)
 }
 
 #[test]
 fn a_refused_reply_leaves_the_delivery_standing() -> Result<(), Fail> {
-    let mut link = bench(1, 1, 4)?;
     let lamp = Command::new(5, 7)?;
-    check_eq(link.put_back(0), Ok(()))?;
-    check_eq(link.offer(lamp), Ok(()))?;
-    check_eq(link.send(), Ok(()))?;
-    check_eq(link.hear(), (Ok(()), Err(Refusal::Full)))?;
-    check_eq(link.receiver().label, 1)?;
-    check_eq(link.receiver().delivered, lamp)?;
-    check_eq(link.settle(), Err(Refusal::Spoilt))
+    let steps = [
+        Step::Fault(Fault::PutBack(0), DONE),
+        Step::Offer(lamp, DONE),
+        Step::Send(DONE),
+        Step::Hear(DONE, Err(Refusal::Full)),
+        Step::Receiver(1, lamp),
+        Step::Settle(Err(Refusal::Spoilt)),
+    ];
+    over(1, 1, 4, &steps)
 }
 
+// A label of the count or more, a broken check, another kind, and a payload that is no command.
 #[test]
 fn spoilt_words_are_gone_and_change_no_end() -> Result<(), Fail> {
-    let mut link = bench(4, 1, 7)?;
-    check_eq(link.put_forward(stop_word(7)), Ok(()))?;
-    check_eq(link.put_forward(stop_word(2) ^ 1), Ok(()))?;
-    check_eq(link.put_forward(Word { label: 2, kind: 2, payload: 0x1_0000_0000 }.pack()), Ok(()))?;
-    check_eq(link.put_forward(Word { label: 2, kind: 1, payload: 0 }.pack()), Ok(()))?;
-    for _ in 0..4u8 {
-        check_eq(link.hear(), (Err(Refusal::Spoilt), Err(Refusal::Silent)))?;
-    }
-    check_eq(link.receiver().label, 0)?;
-    check_eq(link.put_back(stop_word(0)), Ok(()))?;
-    check_eq(link.settle(), Err(Refusal::Spoilt))
+    let stop = Command::new(1, 0)?;
+    let other_kind = Word { label: 2, kind: 2, payload: 0x1_0000_0000 };
+    let no_command = Word { label: 2, kind: 1, payload: 0 };
+    let spoilt = Step::Hear(Err(Refusal::Spoilt), SILENT);
+    let steps = [
+        Step::Fault(Fault::PutForward(stop_word(7)), DONE),
+        Step::Fault(Fault::PutForward(stop_word(2) ^ 1), DONE),
+        Step::Fault(Fault::PutForward(other_kind.pack()), DONE),
+        Step::Fault(Fault::PutForward(no_command.pack()), DONE),
+        spoilt,
+        spoilt,
+        spoilt,
+        spoilt,
+        Step::Receiver(0, stop),
+        Step::Fault(Fault::PutBack(stop_word(0)), DONE),
+        Step::Settle(Err(Refusal::Spoilt)),
+    ];
+    over(4, 1, 7, &steps)
 }
 
 #[test]
 fn stored_labels_are_read_as_remainders() -> Result<(), Fail> {
-    let mut link = bench(1, 1, 4)?;
-    check_eq(link.set_sender_label(255), Ok(()))?;
-    check_eq(link.set_receiver_label(4), Ok(()))?;
-    check_eq(link.put_forward(stop_word(0)), Ok(()))?;
-    check_eq(link.hear(), (Err(Refusal::Repeat), Ok(())))?;
-    check_eq(link.receiver().label, 4)?;
-    check_eq(link.offer(Command::new(1, 0)?), Ok(()))?;
-    check_eq(link.sender().label, 0)?;
-    check_eq(link.settle(), Ok(()))?;
-    check(link.is_clean())
+    let stop = Command::new(1, 0)?;
+    let steps = [
+        Step::Fault(Fault::SenderLabel(255), DONE),
+        Step::Fault(Fault::ReceiverLabel(4), DONE),
+        Step::Fault(Fault::PutForward(stop_word(0)), DONE),
+        Step::Hear(Err(Refusal::Repeat), DONE),
+        Step::Receiver(4, stop),
+        Step::Offer(stop, DONE),
+        Step::Sender(0, State::UnderWay),
+        Step::Settle(DONE),
+        Step::Clean(true),
+    ];
+    over(1, 1, 4, &steps)
 }
 
 #[test]
 fn a_round_hears_and_settles() -> Result<(), Fail> {
-    let mut link = bench(1, 1, 4)?;
-    check_eq(link.round(), (Err(Refusal::Idle), (Err(Refusal::Silent), Err(Refusal::Silent)), Err(Refusal::Silent)))?;
-    check_eq(link.offer(Command::new(3, 12)?), Ok(()))?;
-    check_eq(link.round(), (Ok(()), (Ok(()), Ok(())), Ok(())))?;
-    check_eq(link.observer().completed, 1)?;
-    check_eq(link.observer().first, 1)
+    let axle = Command::new(3, 12)?;
+    let steps = [
+        Step::Round(Err(Refusal::Idle), SILENT, SILENT, SILENT),
+        Step::Offer(axle, DONE),
+        Step::Round(DONE, DONE, DONE, DONE),
+        Step::Observed(1, 1),
+    ];
+    over(1, 1, 4, &steps)
 }
 
 // An acknowledgement that was on the wire completes the first exchange, and leaves the link unclean.
 #[test]
 fn a_stale_acknowledgement_completes_an_exchange() -> Result<(), Fail> {
-    let mut link = bench(1, 1, 4)?;
-    check_eq(link.set_sender_label(2), Ok(()))?;
-    check_eq(link.put_back(Word::acknowledge(3).pack()), Ok(()))?;
-    link.handover();
-    check_eq(link.offer(Command::new(1, 0)?), Ok(()))?;
-    check_eq(link.settle(), Ok(()))?;
-    check(!link.is_clean())?;
-    check_eq(link.offer(Command::new(4, 0)?), Ok(()))?;
-    check_eq(link.round(), (Ok(()), (Err(Refusal::Repeat), Ok(())), Ok(())))?;
-    check_eq(link.observer().completed, 2)?;
-    check_eq(link.observer().first, 2)
+    let stop = Command::new(1, 0)?;
+    let steps = [
+        Step::Fault(Fault::SenderLabel(2), DONE),
+        Step::Fault(Fault::PutBack(Word::acknowledge(3).pack()), DONE),
+        Step::Handover,
+        Step::Offer(stop, DONE),
+        Step::Settle(DONE),
+        Step::Clean(false),
+        Step::Observed(1, 0),
+        Step::Offer(stop, DONE),
+        Step::Round(DONE, Err(Refusal::Repeat), DONE, DONE),
+        Step::Observed(2, 2),
+    ];
+    over(1, 1, 4, &steps)
 }
 
-// Both numbers of the observer stop.
 #[test]
 fn the_observer_stops() -> Result<(), Fail> {
-    let mut link = bench(1, 1, 4)?;
     let stop = Command::new(1, 0)?;
+    let mut link = Link::new(Commands, 4, Ring::new(1), Ring::new(1), stop);
     for _ in 0..65_540u32 {
-        check_eq(link.offer(stop), Ok(()))?;
-        let _ = link.round();
+        perform(&mut link, &[Step::Offer(stop, DONE), Step::Round(DONE, DONE, DONE, DONE)])?;
     }
-    check_eq(link.observer().completed, 65_535)?;
-    check_eq(link.observer().first, 1)
+    perform(&mut link, &[Step::Observed(65_535, 1)])
 }

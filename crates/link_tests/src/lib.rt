@@ -5,3 +5,5 @@ mod answers;
 mod faults;
 #[cfg(test)]
 mod makings;
+#[cfg(test)]
+mod steps;
