@@ -2,6 +2,7 @@
 pub mod listing;
 pub mod message;
 pub mod tally;
+
 pub use listing::report;
 pub use message::Content;
 pub use message::Fault;

@@ -26,5 +26,8 @@ fn counts_a_capture(rt: LibcRuntime) -> Result<(), Fail> {
     let none = report(rt.alloc(), b"")?;
     check(none.as_str() == "0 records, 0 acknowledgements, 0 unreadable\n")?;
     let two = report(rt.alloc(), b"\n0100000000001EF1")?;
-    check(two.as_str() == "no word\nlabel 1: acknowledgement\n0 records, 1 acknowledgements, 1 unreadable\n")
+    check(
+        two.as_str()
+            == "no word\nlabel 1: acknowledgement\n0 records, 1 acknowledgements, 1 unreadable\n",
+    )
 }

@@ -28,7 +28,7 @@ module _ {Rec : Type 0} (labels number : ℕ) (kindReads : ℕ → Option Rec) w
       let k : number % 2 ^ 4 ≡ number = mod-eq-of-lt (omega arith) in
       let q : p % 2 ^ 36 ≡ p = mod-eq-of-lt short in
       let test : ltb (w .label) labels && eqb (w .kind) number ≡ true =
-        and-from (ltb (w .label) labels) (eqb (w .kind) number) (lt-ltb (w .label) labels (omega arith)) (eq-eqb (w .kind) number k) in
+      and-from (ltb (w .label) labels) (eqb (w .kind) number) (lt-ltb (w .label) labels (omega arith)) (eq-eqb (w .kind) number k) in
       ap (recordIn labels number kindReads) (packed-reads w)
       ∙ cond-true (ltb (w .label) labels && eqb (w .kind) number) (underLabel (w .label) (kindReads (w .payload))) None test
       ∙ ap₂ (λ y z. underLabel y (kindReads z)) a q

@@ -1,5 +1,6 @@
 // The link: two ends, two channels, and the calls that carry records from one to the other.
 pub mod state;
+
 pub use recovery::Observer;
 pub use recovery::Receiver;
 pub use recovery::Sender;

@@ -1,4 +1,5 @@
 ghost use Prim.Native.Nat.{_≤_};
+
 pub mod calls;
 pub mod faults;
 pub mod making;

@@ -10,10 +10,11 @@ use records::Commands;
 use records::CommandsKind;
 use std::test::*;
 use wire::Refusal;
-use wire::refusal::RefusalDebug;
 use wire::Word;
+use wire::refusal::RefusalDebug;
 
 const DONE: Result<(), Refusal> = Ok(());
+
 const SILENT: Result<(), Refusal> = Err(Refusal::Silent);
 
 // The steps over two rings of these capacities with this many labels.
@@ -25,7 +26,11 @@ fn over(forward: u16, back: u16, labels: u16, steps: &[Step]) -> Result<(), Fail
 
 // The word of a stop command under a label.
 fn stop_word(label: u8) -> u64 {
-    Word { label, kind: 1, payload: 0x1_0000_0000 }.pack()
+    Word {
+        label,
+        kind: 1,
+        payload: 0x1_0000_0000,
+    }.pack()
 }
 
 #[test]
@@ -83,8 +88,16 @@ fn a_refused_reply_leaves_the_delivery_standing() -> Result<(), Fail> {
 #[test]
 fn spoilt_words_are_gone_and_change_no_end() -> Result<(), Fail> {
     let stop = Command::new(1, 0)?;
-    let other_kind = Word { label: 2, kind: 2, payload: 0x1_0000_0000 };
-    let no_command = Word { label: 2, kind: 1, payload: 0 };
+    let other_kind = Word {
+        label: 2,
+        kind: 2,
+        payload: 0x1_0000_0000,
+    };
+    let no_command = Word {
+        label: 2,
+        kind: 1,
+        payload: 0,
+    };
     let spoilt = Step::Hear(Err(Refusal::Spoilt), SILENT);
     let steps = [
         Step::Fault(Fault::PutForward(stop_word(7)), DONE),
@@ -155,7 +168,10 @@ fn the_observer_stops() -> Result<(), Fail> {
     let stop = Command::new(1, 0)?;
     let mut link = Link::new(Commands, 4, Ring::new(1), Ring::new(1), stop);
     for _ in 0..65_540u32 {
-        perform(&mut link, &[Step::Offer(stop, DONE), Step::Round(DONE, DONE, DONE, DONE)])?;
+        perform(
+            &mut link,
+            &[Step::Offer(stop, DONE), Step::Round(DONE, DONE, DONE, DONE)],
+        )?;
     }
     perform(&mut link, &[Step::Observed(65_535, 1)])
 }

@@ -18,7 +18,14 @@ const DONE: Result<(), Refusal> = Ok(());
 fn after_one(steps: &[Step]) -> Result<(), Fail> {
     let stop = Command::new(1, 0)?;
     let mut link = Link::new(Commands, 4, Ring::new(1), Ring::new(1), stop);
-    perform(&mut link, &[Step::Offer(stop, DONE), Step::Round(DONE, DONE, DONE, DONE), Step::Observed(1, 1)])?;
+    perform(
+        &mut link,
+        &[
+            Step::Offer(stop, DONE),
+            Step::Round(DONE, DONE, DONE, DONE),
+            Step::Observed(1, 1),
+        ],
+    )?;
     perform(&mut link, steps)
 }
 

@@ -25,7 +25,13 @@ use wire::refusal::RefusalDebug;
 use wire::refusal::RefusalPartialEq;
 
 fn labels_made(labels: u16) -> Result<u16, Fail> {
-    let link = Link::new(Commands, labels, first_forward(), first_back(), Command::new(1, 0)?);
+    let link = Link::new(
+        Commands,
+        labels,
+        first_forward(),
+        first_back(),
+        Command::new(1, 0)?,
+    );
     Ok(link.labels())
 }
 
@@ -42,12 +48,24 @@ fn a_label_count_out_of_range_becomes_two() -> Result<(), Fail> {
 #[test]
 fn the_check_wants_two_labels_more_than_places() -> Result<(), Fail> {
     check_eq(check_link(&first_forward(), &first_back(), 4), Ok(()))?;
-    check_eq(check_link(&first_forward(), &first_back(), 3), Err(Refusal::Labels))?;
+    check_eq(
+        check_link(&first_forward(), &first_back(), 3),
+        Err(Refusal::Labels),
+    )?;
     check_eq(check_link(&first_forward(), &first_back(), 256), Ok(()))?;
-    check_eq(check_link(&first_forward(), &first_back(), 257), Err(Refusal::Labels))?;
+    check_eq(
+        check_link(&first_forward(), &first_back(), 257),
+        Err(Refusal::Labels),
+    )?;
     check_eq(check_link(&second_forward(), &second_back(), 10), Ok(()))?;
-    check_eq(check_link(&second_forward(), &second_back(), 9), Err(Refusal::Labels))?;
-    check_eq(check_link(&Ring::new(64), &DelayLine::new(64, 15), 130), Ok(()))
+    check_eq(
+        check_link(&second_forward(), &second_back(), 9),
+        Err(Refusal::Labels),
+    )?;
+    check_eq(
+        check_link(&Ring::new(64), &DelayLine::new(64, 15), 130),
+        Ok(()),
+    )
 }
 
 // Words are lost, and each exchange is completed within a hundred rounds all the same.

@@ -88,7 +88,10 @@ fn call<F: Channel, B: Channel>(link: &mut Link<F, B, Commands>, step: Step) -> 
         Step::Hear(heard, reply) => check_eq(link.hear(), (heard, reply)),
         Step::Settle(answer) => check_eq(link.settle(), answer),
         Step::Tick => check_eq(link.tick(), Ok(())),
-        Step::Round(sent, heard, reply, settled) => check_eq(link.round(), (sent, (heard, reply), settled)),
+        Step::Round(sent, heard, reply, settled) => check_eq(
+            link.round(),
+            (sent, (heard, reply), settled),
+        ),
         Step::Fault(kind, answer) => check_eq(inject(link, kind), answer),
         Step::Handover => {
             link.handover();
@@ -99,7 +102,10 @@ fn call<F: Channel, B: Channel>(link: &mut Link<F, B, Commands>, step: Step) -> 
 }
 
 // Performs the steps one after another.
-pub fn perform<F: Channel, B: Channel>(link: &mut Link<F, B, Commands>, steps: &[Step]) -> Result<(), Fail> {
+pub fn perform<F: Channel, B: Channel>(
+    link: &mut Link<F, B, Commands>,
+    steps: &[Step],
+) -> Result<(), Fail> {
     for step in steps {
         call(link, *step)?;
     }

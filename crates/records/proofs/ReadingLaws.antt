@@ -89,7 +89,7 @@ once p r e =
     let spare : p % 2 ^ 3 ≡ 0 = eqb-true (p % 2 ^ 3) 0 (both .0) in
     let m = guarded-some (inRange (p / 2 ^ 32) f q) (λ e. record { axle = p / 2 ^ 32; side = sideOf w; force = f; pressure = q; measurable = e }) r (both .1) in
     let sum : readingPayload r ≡ p / 2 ^ 32 * 2 ^ 32 + w * 2 ^ 31 + f * 2 ^ 15 + q * 2 ^ 3 =
-      sym (ap readingPayload (m .1)) ∙ ap (λ n. p / 2 ^ 32 * 2 ^ 32 + n * 2 ^ 31 + f * 2 ^ 15 + q * 2 ^ 3) (side-bit w (omega arith)) in
+    sym (ap readingPayload (m .1)) ∙ ap (λ n. p / 2 ^ 32 * 2 ^ 32 + n * 2 ^ 31 + f * 2 ^ 15 + q * 2 ^ 3) (side-bit w (omega arith)) in
     let a : p / 2 ^ 3 / 2 ^ 12 ≡ p / 2 ^ 15 = shr-shr p 3 12 in
     let b : p / 2 ^ 15 / 2 ^ 16 ≡ p / 2 ^ 31 = shr-shr p 15 16 in
     let c : p / 2 ^ 31 / 2 ^ 1 ≡ p / 2 ^ 32 = shr-shr p 31 1 in

@@ -13,6 +13,7 @@ pub trait RecordKind {
     type Letter: Fixed + Copy;
 
     const NUMBER: Self::Number;
+
     const LETTER: Self::Letter;
 
     type Record: Copy;

@@ -4,6 +4,7 @@ pub mod fixed;
 pub mod kind;
 pub mod reading;
 pub mod table;
+
 pub use command::Action;
 pub use command::Command;
 pub use command::kind::Commands;

@@ -1,6 +1,7 @@
 ghost use mathlib.Core.Path.{_≡_};
 ghost use mathlib.Core.Bool.{true};
 ghost use Rattle.records.specs.Ranges.{inRange};
+
 pub mod kind;
 pub mod text;
 pub mod values;

@@ -45,8 +45,9 @@ letter-back d l h =
 -- a digit that is written reads back
 digit-back : (d : ℕ) → d < 16 → digitValue (hexDigit d) ≡ Some d
 digit-back d h = elim (cases-lt d 10) [
-    inl l ↦ ap digitValue (cond-true (ltb d 10) (48 + d) (55 + d) (lt-ltb d 10 l)) ∙ figure-back d l
-  | inr l ↦ ap digitValue (cond-false (ltb d 10) (48 + d) (55 + d) (le-ltb d 10 l)) ∙ letter-back d l h ]
+  | inl l ↦ ap digitValue (cond-true (ltb d 10) (48 + d) (55 + d) (lt-ltb d 10 l)) ∙ figure-back d l
+  | inr l ↦ ap digitValue (cond-false (ltb d 10) (48 + d) (55 + d) (le-ltb d 10 l)) ∙ letter-back d l h
+]
 
 -- digits behind digits
 hex-append : (n : ℕ) (xs ys : List ℕ) → hexFrom n (xs ++ ys) ≡ next (hexFrom n xs) (λ m. hexFrom m ys)

@@ -17,6 +17,7 @@ lines-split (c ∷ cs) h = at (eqb c 10) (more cs (lines-split cs))
     more : (ds : List ℕ) → (0 < length ds → linesOf ds ≡ lineOf ds ∷ linesOf (restOf ds)) → before c (linesOf ds) ≡ (c ∷ lineOf ds) ∷ linesOf (restOf ds)
     more [] k = refl
     more (d ∷ ds) k = ap (before c) (k (omega arith))
+
     at : (b : Bool) → before c (linesOf cs) ≡ (c ∷ lineOf cs) ∷ linesOf (restOf cs) → cond b ([] ∷ linesOf cs) (before c (linesOf cs)) ≡ take (cond b 0 (suc (lineLength cs))) (c ∷ cs) ∷ linesOf (drop (suc (cond b 0 (suc (lineLength cs)))) (c ∷ cs))
     at true k = refl
     at false k = k

@@ -35,12 +35,12 @@ apart h hp v u j e r =
     let b : m * (v / m) + v % m ≡ v = div-add-mod v m in
     let s : (u / m < v / m) ⊎ (v / m ≤ u / m) = cases-lt (u / m) (v / m) in
     elim s [
-      inl l ↦ let k : m * (u / m) ≤ m * (v / m) = mul-le-mul-left m (omega arith) in let p : 0 < 2 ^ j = pow-pos j in omega arith
-    | inr l ↦
-        let q : ℕ = u / m - v / m in
-        let f : u / m ≡ v / m + q = omega arith in
-        let g : m * (u / m) ≡ m * (v / m) + m * q = ap (λ n. m * n) f ∙ mul-add m (v / m) q in
-        no-multiple h hp j q (omega arith)
+      | inl l ↦ let k : m * (u / m) ≤ m * (v / m) = mul-le-mul-left m (omega arith) in let p : 0 < 2 ^ j = pow-pos j in omega arith
+      | inr l ↦
+          let q : ℕ = u / m - v / m in
+          let f : u / m ≡ v / m + q = omega arith in
+          let g : m * (u / m) ≡ m * (v / m) + m * q = ap (λ n. m * n) f ∙ mul-add m (v / m) q in
+          no-multiple h hp j q (omega arith)
     ]
 
 -- one bit of a number
@@ -50,7 +50,7 @@ bit w i =
     let b : 1 * 2 ^ i + 0 ≡ 2 ^ i = omega (arith, one-mul (2 ^ i)) in
     let low : w % 2 ^ i < 2 ^ i = mod-lt w (pow-pos i) in
     let e : bitAnd (w / 2 ^ i * 2 ^ i + w % 2 ^ i) (1 * 2 ^ i + 0) ≡ bitAnd (w / 2 ^ i) 1 * 2 ^ i + bitAnd (w % 2 ^ i) 0 =
-      and-block i (w / 2 ^ i) 1 (w % 2 ^ i) 0 low (pow-pos i) in
+    and-block i (w / 2 ^ i) 1 (w % 2 ^ i) 0 low (pow-pos i) in
     let f : bitAnd (w / 2 ^ i) 1 ≡ w / 2 ^ i % 2 = and-mask (w / 2 ^ i) 1 in
     let g : bitAnd (w % 2 ^ i) 0 ≡ 0 = and-zero-r (w % 2 ^ i) in
     let k : bitAnd w (2 ^ i) ≡ (w / 2 ^ i % 2) * 2 ^ i + 0 = rw (a, b, f, g) at e in

@@ -35,5 +35,5 @@ joined h bits x k =
     let y : ℕ = x % 2 ^ bits in
     let small : y < 2 ^ bits = mod-lt x (pow-pos bits) in
     let top : h * 2 ^ bits % 2 ^ 64 ≡ h % 2 ^ (64 - bits) * 2 ^ bits =
-      ap (λ n. n % 2 ^ 64) (omega arith) ∙ kept h bits 0 k (pow-pos bits) ∙ omega arith in
+    ap (λ n. n % 2 ^ 64) (omega arith) ∙ kept h bits 0 k (pow-pos bits) ∙ omega arith in
     ap (λ n. bitOr n y) top ∙ or-shifted (h % 2 ^ (64 - bits)) bits y small ∙ sym (kept h bits y k small)

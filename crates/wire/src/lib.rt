@@ -2,6 +2,7 @@
 pub mod bits;
 pub mod refusal;
 pub mod word;
+
 pub use refusal::Refusal;
 pub use refusal::text::RefusalDisplay;
 pub use word::Word;

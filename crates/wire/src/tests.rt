@@ -12,26 +12,48 @@ use std::test::*;
 fn packs_the_worked_words() -> Result<(), Fail> {
     check_eq(Word::acknowledge(0).pack(), 0x0000_0000_0000_FFF1)?;
     check_eq(Word::acknowledge(3).pack(), 0x0300_0000_0000_5CD3)?;
-    let reading = Word { label: 5, kind: 2, payload: 0x2_8271_1400 };
+    let reading = Word {
+        label: 5,
+        kind: 2,
+        payload: 0x2_8271_1400,
+    };
     check_eq(reading.pack(), 0x0522_8271_1400_C3BC)?;
     check(!is_whole(0x0100_0000_0000_1EF0))
 }
 
 #[test]
 fn reads_at_the_edges_of_every_field() -> Result<(), Fail> {
-    let top = Word { label: 255, kind: 15, payload: 0xF_FFFF_FFFF };
+    let top = Word {
+        label: 255,
+        kind: 15,
+        payload: 0xF_FFFF_FFFF,
+    };
     check_eq(Word::read(top.pack()), Some(top))?;
-    let zero = Word { label: 0, kind: 0, payload: 0 };
+    let zero = Word {
+        label: 0,
+        kind: 0,
+        payload: 0,
+    };
     check_eq(Word::read(zero.pack()), Some(zero))?;
     check(zero.is_acknowledgement())?;
-    check(!Word { label: 0, kind: 0, payload: 1 }.is_acknowledgement())?;
+    check(
+        !Word {
+            label: 0,
+            kind: 0,
+            payload: 1,
+        }.is_acknowledgement(),
+    )?;
     check_eq(Word::read(0), None)?;
     check_eq(Word::read(u64::MAX), None)
 }
 
 #[test]
 fn sees_every_changed_bit() -> Result<(), Fail> {
-    let bits = Word { label: 200, kind: 1, payload: 0x2_0000_003C }.pack();
+    let bits = Word {
+        label: 200,
+        kind: 1,
+        payload: 0x2_0000_003C,
+    }.pack();
     for i in 0..64u32 {
         check(!is_whole(bits ^ 1u64.rotate_left(i)))?;
     }

@@ -1,4 +1,5 @@
 ghost use Prim.Native.Nat.{_<_, _^_};
+
 pub mod codec;
 
 // What a word carries besides its check: a label, a kind of 4 bits and a payload of 36.

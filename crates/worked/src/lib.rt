@@ -7,5 +7,4 @@ ghost use Rattle.worked.specs.Table.{cases};
 // Proved if every case of the table comes out as it says.
 pub fn cases_hold()
     ensures { λ _. ⌜ allPass cases ≡ true ⌝ }
-{
-}
+{}

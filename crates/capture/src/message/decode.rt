@@ -32,7 +32,10 @@ fn message_in(line: &[u8]) -> Result<Message, Fault>
         return Err(Fault::NotWhole);
     };
     match content_of(word) {
-        Ok(content) => Ok(Message { label: word.label, content }),
+        Ok(content) => Ok(Message {
+            label: word.label,
+            content,
+        }),
         Err(fault) => Err(fault),
     }
 }

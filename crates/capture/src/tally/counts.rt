@@ -12,20 +12,40 @@ impl Tally {
     pub fn new() -> Tally
         ensures { λ r. ⌜ r ≡ noneYet ⌝ }
     {
-        Tally { records: 0, acknowledgements: 0, unreadable: 0 }
+        Tally {
+            records: 0,
+            acknowledgements: 0,
+            unreadable: 0,
+        }
     }
 
     // The counts after one more line.
     pub fn after(self, found: Result<Message, Fault>) -> Tally
         ensures { λ r. ⌜ r ≡ noted self found ⌝ }
     {
-        let Tally { records, acknowledgements, unreadable } = self;
+        let Tally {
+            records,
+            acknowledgements,
+            unreadable,
+        } = self;
         match found {
             Ok(message) => match message.content {
-                Content::Acknowledgement => Tally { records, acknowledgements: acknowledgements.saturating_add(1), unreadable },
-                _ => Tally { records: records.saturating_add(1), acknowledgements, unreadable },
+                Content::Acknowledgement => Tally {
+                    records,
+                    acknowledgements: acknowledgements.saturating_add(1),
+                    unreadable,
+                },
+                _ => Tally {
+                    records: records.saturating_add(1),
+                    acknowledgements,
+                    unreadable,
+                },
             },
-            Err(_) => Tally { records, acknowledgements, unreadable: unreadable.saturating_add(1) },
+            Err(_) => Tally {
+                records,
+                acknowledgements,
+                unreadable: unreadable.saturating_add(1),
+            },
         }
     }
 }
@@ -37,6 +57,9 @@ pub impl fmt::Display for Tally as TallyDisplay {
         let records = self.records;
         let acknowledgements = self.acknowledgements;
         let unreadable = self.unreadable;
-        write!(f, "{records} records, {acknowledgements} acknowledgements, {unreadable} unreadable")
+        write!(
+            f,
+            "{records} records, {acknowledgements} acknowledgements, {unreadable} unreadable"
+        )
     }
 }

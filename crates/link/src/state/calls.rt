@@ -86,7 +86,13 @@ impl<F: Channel, B: Channel, R: RecordKind> Link<F, B, R> {
     }
 
     // Send, hear, settle and tick, in that order. Answers send's, hear's two and settle's answer.
-    pub fn round(&mut self) -> (Result<(), Refusal>, (Result<(), Refusal>, Result<(), Refusal>), Result<(), Refusal>)
+    pub fn round(
+        &mut self,
+    ) -> (
+        Result<(), Refusal>,
+        (Result<(), Refusal>, Result<(), Refusal>),
+        Result<(), Refusal>,
+    )
         ensures { λ a. ⌜ Round (codec (Number·Fixed .worth) (R·RecordKind .payload) (R·RecordKind .reads)) (behaviourOf F·Channel) (behaviourOf B·Channel) (stateOf (now (self .entry))) (a .0) (a .1 .0) (a .1 .1) (a .2) (stateOf (now (self .exit))) ⌝ }
     {
         let sent = self.send();

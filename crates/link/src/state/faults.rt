@@ -10,7 +10,10 @@ use recovery::Observer;
 use recovery::State;
 use wire::Refusal;
 
-const UNOBSERVED: Observer = Observer { completed: 0, first: 0 };
+const UNOBSERVED: Observer = Observer {
+    completed: 0,
+    first: 0,
+};
 
 impl<F: Channel, B: Channel, R: RecordKind> Link<F, B, R> {
     pub fn set_sender_label(&mut self, label: u8) -> Result<(), Refusal>

@@ -62,11 +62,21 @@ impl<F: Channel, B: Channel, R: RecordKind> Link<F, B, R> {
     {
         Link {
             config: Config::new(kind, labels),
-            sender: Sender { label: 0, state: State::Idle, in_hand: first },
-            receiver: Receiver { label: 0, delivered: first },
+            sender: Sender {
+                label: 0,
+                state: State::Idle,
+                in_hand: first,
+            },
+            receiver: Receiver {
+                label: 0,
+                delivered: first,
+            },
             forward,
             back,
-            observer: Observer { completed: 0, first: 0 },
+            observer: Observer {
+                completed: 0,
+                first: 0,
+            },
         }
     }
 

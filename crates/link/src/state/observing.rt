@@ -92,7 +92,11 @@ pub(super) fn after_exchange(observer: Observer, clean: bool) -> Observer
     ensures { λ r. ⌜ r ≡ observed clean observer ⌝ }
 {
     let completed = next_count(observer.completed);
-    let first = if clean && observer.first == 0 { completed } else { observer.first };
+    let first = if clean && observer.first == 0 {
+        completed
+    } else {
+        observer.first
+    };
     Observer { completed, first }
 }
 
@@ -108,8 +112,12 @@ impl<F: Channel, B: Channel, R: RecordKind> Link<F, B, R> {
         if self.config.read_label(self.receiver.label) != label {
             return false;
         }
-        let words = Words { config: &self.config };
-        let acks = Acks { config: &self.config };
+        let words = Words {
+            config: &self.config,
+        };
+        let acks = Acks {
+            config: &self.config,
+        };
         if !words_fit(&self.forward, &words, label) {
             return false;
         }

@@ -33,7 +33,11 @@ impl<F: Channel, B: Channel, R: RecordKind> Link<F, B, R> {
         ensures { λ _. ⌜ stateOf (now (self .exit)) ≡ offered (codec (Number·Fixed .worth) (R·RecordKind .payload) (R·RecordKind .reads)) (stateOf (now (self .entry))) r ⌝ }
     {
         let label = self.config.next_label(self.sender.label);
-        self.sender = Sender { label, state: State::UnderWay, in_hand: r };
+        self.sender = Sender {
+            label,
+            state: State::UnderWay,
+            in_hand: r,
+        };
     }
 
     // The word of the record in hand.
@@ -70,7 +74,10 @@ impl<F: Channel, B: Channel, R: RecordKind> Link<F, B, R> {
     pub(super) fn deliver(&mut self, label: u8, r: R::Record)
         ensures { λ _. ⌜ stateOf (now (self .exit)) ≡ delivered (stateOf (now (self .entry))) label r (now (self .entry) .forward) (now (self .entry) .back) ⌝ }
     {
-        self.receiver = Receiver { label, delivered: r };
+        self.receiver = Receiver {
+            label,
+            delivered: r,
+        };
     }
 
     // The sender comes to rest.
@@ -84,7 +91,10 @@ impl<F: Channel, B: Channel, R: RecordKind> Link<F, B, R> {
     pub(super) fn count_anew(&mut self)
         ensures { λ _. ⌜ stateOf (now (self .exit)) ≡ observedAnew (stateOf (now (self .entry))) ⌝ }
     {
-        self.observer = Observer { completed: 0, first: 0 };
+        self.observer = Observer {
+            completed: 0,
+            first: 0,
+        };
     }
 }
 

@@ -28,7 +28,9 @@ impl<R> Config<R> {
         ensures { λ r. ⌜ r ≡ readAck (now (self .entry) .labels) bits ⌝ }
     {
         match Word::read(bits) {
-            Some(word) if (word.label as u16) < self.labels && word.is_acknowledgement() => Some(word.label),
+            Some(word) if (word.label as u16) < self.labels && word.is_acknowledgement() => Some(
+                word.label,
+            ),
             _ => None,
         }
     }
@@ -40,7 +42,11 @@ impl<R: RecordKind> Config<R> {
         ensures { λ w. ⌜ w ≡ sendWord (Number·Fixed .worth) (R·RecordKind .payload (now (self .entry) .kind)) label (now (r .entry)) ⌝ }
     {
         let payload = self.kind.pack(r);
-        let word = Word { label, kind: R::NUMBER.value(), payload };
+        let word = Word {
+            label,
+            kind: R::NUMBER.value(),
+            payload,
+        };
         word.pack()
     }
 

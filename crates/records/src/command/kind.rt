@@ -15,9 +15,11 @@ pub struct Commands;
 
 pub impl RecordKind for Commands as CommandsKind {
     type Number = Byte<1>;
+
     type Letter = Byte<b'C'>;
 
     const NUMBER: Byte<1> = Byte { value: 1 };
+
     const LETTER: Byte<b'C'> = Byte { value: b'C' };
 
     type Record = Command;

@@ -17,9 +17,11 @@ pub struct Readings;
 
 pub impl RecordKind for Readings as ReadingsKind {
     type Number = Byte<2>;
+
     type Letter = Byte<b'G'>;
 
     const NUMBER: Byte<2> = Byte { value: 2 };
+
     const LETTER: Byte<b'G'> = Byte { value: b'G' };
 
     type Record = Reading;

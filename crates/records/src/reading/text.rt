@@ -24,6 +24,12 @@ pub impl fmt::Display for Reading as ReadingDisplay {
         let side = self.side;
         let newtons = self.force_newtons();
         let pressure = self.pressure;
-        write!(f, "axle {axle} {side}, {newtons} N, {}.{}{} bar", pressure / 100, pressure / 10 % 10, pressure % 10)
+        write!(
+            f,
+            "axle {axle} {side}, {newtons} N, {}.{}{} bar",
+            pressure / 100,
+            pressure / 10 % 10,
+            pressure % 10
+        )
     }
 }

@@ -38,7 +38,12 @@ impl Reading {
         if !in_range(axle as u64, force as u64, pressure as u64) {
             return Err(Refusal::Code);
         }
-        Ok(Reading { axle, side, force, pressure })
+        Ok(Reading {
+            axle,
+            side,
+            force,
+            pressure,
+        })
     }
 
     // From 1 to 12.

@@ -54,7 +54,11 @@ impl Word {
         ensures value { λ r. ⌜ r ≡ upper self ⌝ }
         ensures bound { λ r. ⌜ r < 2 ^ 48 ⌝ }
     {
-        join(join(self.label as u64, 4, self.kind as u64), 36, self.payload)
+        join(
+            join(self.label as u64, 4, self.kind as u64),
+            36,
+            self.payload,
+        )
     }
 }
 
@@ -89,7 +93,11 @@ fn bare(label: u8) -> Word
     ensures kind { λ r. ⌜ r .kind ≡ 0 ⌝ }
     ensures payload { λ r. ⌜ r .payload ≡ 0 ⌝ }
 {
-    Word { label, kind: 0, payload: 0 }
+    Word {
+        label,
+        kind: 0,
+        payload: 0,
+    }
 }
 
 fn check_of(v: u64) -> u64

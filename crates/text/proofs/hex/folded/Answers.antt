@@ -21,10 +21,11 @@ returns-in-None c =
     sym (sym (c .loop-byte .inv .0) ∙ digit-more (c .loop-byte .value) (c .args .digits .now) (c .loop-byte .byte-index) _ (c .loop-byte-test .taken) (sym (c .in-None .ensures tt .value)))
 
 pub loop-byte-again : need.loop-byte-again
-loop-byte-again c =
-    (sym (digit-more (c .loop-byte .value) (c .args .digits .now) (c .loop-byte .byte-index) _ (c .loop-byte-test .taken) (sym (c .in-Some .ensures tt .value))) ∙ c .loop-byte .inv .0
-    , grows (c .loop-byte .value) (c .in-Some .digit) (c .loop-byte .byte-index) (c .loop-byte .inv .1) (small c)
-    , omega arith)
+loop-byte-again c = (
+  sym (digit-more (c .loop-byte .value) (c .args .digits .now) (c .loop-byte .byte-index) _ (c .loop-byte-test .taken) (sym (c .in-Some .ensures tt .value))) ∙ c .loop-byte .inv .0,
+  grows (c .loop-byte .value) (c .in-Some .digit) (c .loop-byte .byte-index) (c .loop-byte .inv .1) (small c),
+  omega arith,
+)
 
 pub returns : need.returns
 returns c = sym (at-drop-all (hexFrom (c .loop-byte .value)) (c .args .digits .now) (c .loop-byte .byte-index) (c .loop-byte-test .left)) ∙ c .loop-byte .inv .0

@@ -15,6 +15,6 @@ returns g c =
     record {
       after = c .count-anew .ensures;
       recovers = λ passed.
-        recovers words (behaviourOf (g .F·Channel)) (behaviourOf (g .B·Channel)) (g .F·Channel .rules) (g .B·Channel .rules) 256 (omega arith) (stateOf m) laws (λ r. refl)
-        (record { checked = passed; observer = ap (λ l. l .observer) (c .count-anew .ensures); inHand = refl });
+          recovers words (behaviourOf (g .F·Channel)) (behaviourOf (g .B·Channel)) (g .F·Channel .rules) (g .B·Channel .rules) 256 (omega arith) (stateOf m) laws (λ r. refl)
+          (record { checked = passed; observer = ap (λ l. l .observer) (c .count-anew .ensures); inHand = refl });
     }

@@ -18,10 +18,11 @@ pub loop-at-again : need.loop-at-again
 loop-at-again g c =
     let ws = g .C·Channel .contents (c .args .channel .now) in
     elim (c .match-peek .came) [
-        in-Ok·else-not-label-fits w ↦
+      | in-Ok·else-not-label-fits w ↦
           fit-more (g .L·LabelReader .labelIn (c .args .reader .now)) (c .args .label) ws (c .loop-at .at) (w .in-Ok .bits) (w .in-Ok .ensures tt)
           (w .if-not-label-fits .ensures tt ∙ ap (fits (c .args .label)) (w .label-in .ensures)) (c .loop-at .inv)
-      | in-rest w ↦ absurd (omega (arith, refused-past ws (c .loop-at .at) _ (w .in-rest .ensures tt), c .load-at-end .ensures)) ]
+      | in-rest w ↦ absurd (omega (arith, refused-past ws (c .loop-at .at) _ (w .in-rest .ensures tt), c .load-at-end .ensures))
+    ]
 
 pub returns : need.returns
 returns g c =
