@@ -1,6 +1,6 @@
 -- The sorts of worked case, and when one passes. Assumes nothing.
 use mathlib.Core.Bool.{Bool, true, false, _&&_, not}
-use mathlib.Core.List.{List, [], _∷_}
+use mathlib.Core.List.{List, [], _∷_, _++_}
 use Prim.Native.Nat.{ℕ}
 use lib.Dec.{eqb}
 use Rattle.std.specs.Options.{isSome}
@@ -16,6 +16,7 @@ use Rattle.records.specs.Readings.{readingOf, readingPayload}
 use Rattle.channel.specs.Meaning.{Meaning}
 use Rattle.recovery.specs.Check.{checked}
 use Rattle.recovery.specs.Findings.{mostRounds}
+use Rattle.report.specs.Reports.{reportText}
 
 pub data Case : Type 0 where
   -- the acknowledgement of a label is this word
@@ -36,10 +37,23 @@ pub data Case : Type 0 where
   checks : (forward back : Meaning) (labels answer : ℕ) → Case
   -- an exchange over two channels is completed within so many rounds
   rounds : (forward back : Meaning) (most : ℕ) → Case
+  -- a script of these lines has a report of these lines
+  session : (script report : List (List ℕ)) → Case
 
 abbrev pub readingWord : ℕ → ℕ → Option Reading → Bool
 readingWord label bits (Some r) = eqb (packed (wordOf label 2 (readingPayload r))) bits && whole narrow bits
 readingWord label bits None = false
+
+-- lines, each with its end
+abbrev pub textOf : List (List ℕ) → List ℕ
+textOf [] = []
+textOf (line ∷ lines) = line ++ (10 ∷ textOf lines)
+
+abbrev pub same : List ℕ → List ℕ → Bool
+same [] [] = true
+same [] (y ∷ ys) = false
+same (x ∷ xs) [] = false
+same (x ∷ xs) (y ∷ ys) = eqb x y && same xs ys
 
 abbrev pub passes : Case → Bool
 passes (acknowledges label bits) = eqb (packed (acknowledgement label)) bits && whole narrow bits
@@ -52,6 +66,7 @@ passes (noCommand code argument) = not (isSome (commandOf code argument))
 passes (channel m capacity delay losses) = eqb (m .capacity) capacity && (eqb (m .delay) delay && eqb (m .losses) losses)
 passes (checks forward back labels answer) = eqb (answerOf (checked 256 labels forward back)) answer
 passes (rounds forward back most) = eqb (mostRounds forward back) most
+passes (session script report) = same (reportText (textOf script)) (textOf report)
 
 abbrev pub allPass : List Case → Bool
 allPass [] = true
