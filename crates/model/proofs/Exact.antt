@@ -135,7 +135,7 @@ module _ {Config Rec F B : Type 0} (codec : Config → Codec Rec) {X : Behaviour
 
   pub round-is : {l m : LinkState Config Rec F B} {a h c d : Answer} → Round codec X Y l a h c d m
       → (a ≡ roundOf codec (shaped l) .sent) × (h ≡ roundOf codec (shaped l) .heard) × (c ≡ roundOf codec (shaped l) .reply) × (d ≡ roundOf codec (shaped l) .settled)
-        × (shaped m ≡ roundOf codec (shaped l) .after)
+      × (shaped m ≡ roundOf codec (shaped l) .after)
   round-is s =
       let e = round-turn s in
       (ap (λ (t : Rounding Config Rec). t .sent) e, ap (λ (t : Rounding Config Rec). t .heard) e, ap (λ (t : Rounding Config Rec). t .reply) e, ap (λ (t : Rounding Config Rec). t .settled) e, ap (λ (t : Rounding Config Rec). t .after) e)

@@ -1,14 +1,15 @@
--- A new link over channels that have shapes is the one computed of these shapes. Assumes nothing.
+-- A new link over channels that have shapes is the one computed of these shapes, and so is one that is handed over. Assumes nothing.
 use mathlib.Core.Path.{_≡_, ap}
 use mathlib.Core.HLevel.{isProp→PathP, ×-prop}
 use Prim.Native.Nat.{ℕ}
 use native.Mathlib.Bridge.{le-prop}
 use Rattle.recovery.specs.State.{LinkState}
 use Rattle.link.specs.declared.state.Config.{Config, range-type}
-use Rattle.link.specs.Makings.{Made}
+use Rattle.link.specs.Makings.{Made, observedAnew}
 use Rattle.shapes.specs.Shapes.{Shape}
 use Rattle.model.specs.Models.{Model, shapedState}
 use Rattle.model.specs.Makings.{configOf, newOf}
+use Rattle.model.specs.Faults.{handoverOf}
 
 pub config-ext : {R : Type 0} (a b : Config R) → a .kind ≡ b .kind → a .labels ≡ b .labels → a ≡ b
 config-ext {R} a b p q = λ i. record {
@@ -27,3 +28,6 @@ new-is shapeF shapeB kind count f b r l m = λ i. record {
   back = ap shapeB (m .back) i;
   observer = m .observer i;
 }
+
+pub handover-is : {R Rec F B : Type 0} (shapeF : F → Shape) (shapeB : B → Shape) (l m : LinkState (Config R) Rec F B) → m ≡ observedAnew l → shapedState shapeF shapeB m ≡ handoverOf (shapedState shapeF shapeB l)
+handover-is shapeF shapeB l m e = ap (shapedState shapeF shapeB) e

@@ -2,9 +2,9 @@
 use mathlib.Core.Path.{_≡_, refl, sym, ap, ap₂, subst, _∙_}
 use mathlib.Core.Bool.{Bool}
 use mathlib.Core.List.{List, [], _∷_, _++_, append-assoc, append-nil}
-use Prim.Native.Nat.{ℕ, _+_, _<_}
+use Prim.Native.Nat.{ℕ, _+_, _≤_, _<_}
 use lib.ListN.{length, getD, take}
-use Rattle.std.proofs.shelf.Lists.{take-more}
+use Rattle.std.proofs.shelf.Lists.{take-more, take-all}
 use Rattle.std.specs.declared.result.Result.the-variants.{Ok, Err}
 use Rattle.wire.specs.Refusals.{Answer}
 use Rattle.channel.specs.Meaning.{Behaviour}
@@ -98,3 +98,8 @@ module _ {Config Rec : Type 0} (codec : Config → Codec Rec) where
       → here ≡ afterAll codec start (take i cs) → Run codec X Y l (eventsAll codec start (take i cs)) m → Run codec X Y m (events codec here c) n → Run codec X Y l (eventsAll codec start (take (i + 1) cs)) n
   run-more {X = X} {Y = Y} {l = l} {n = n} start here cs i c h e k r s =
       subst (λ es. Run codec X Y l es n) (ap (λ (m : Model Config Rec). eventsAll codec start (take i cs) ++ events codec m c) k ∙ sym (events-more start cs i c h e)) (run-append codec r s)
+
+  -- behind the last there are no more
+  pub run-all : {F B : Type 0} {X : Behaviour F} {Y : Behaviour B} {l m : LinkState Config Rec F B} (start : Model Config Rec) (cs : List (Call Rec)) (i : ℕ) → length cs ≤ i
+      → Run codec X Y l (eventsAll codec start (take i cs)) m → Run codec X Y l (eventsAll codec start cs) m
+  run-all {X = X} {Y = Y} {l = l} {m = m} start cs i past = subst (λ ds. Run codec X Y l (eventsAll codec start ds) m) (take-all i cs past)

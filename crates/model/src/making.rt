@@ -15,7 +15,13 @@ use records::RecordKind;
 use shapes::Shaped;
 
 // A new link, with the same record at both ends.
-pub fn make<F: Shaped, B: Shaped, R: RecordKind>(kind: R, labels: u16, forward: F, back: B, first: R::Record) -> Link<F, B, R>
+pub fn make<F: Shaped, B: Shaped, R: RecordKind>(
+    kind: R,
+    labels: u16,
+    forward: F,
+    back: B,
+    first: R::Record,
+) -> Link<F, B, R>
     ensures { λ r. ⌜ shapedState (F·Shaped .shape) (B·Shaped .shape) (stateOf r) ≡ newOf kind labels (F·Shaped .shape forward) (B·Shaped .shape back) first ⌝ }
 {
     Link::new(kind, labels, forward, back, first)

@@ -6,6 +6,12 @@ ghost use Rattle.recovery.specs.Runs.{Run};
 ghost use Rattle.model.specs.Models.{shapedState};
 ghost use Rattle.model.specs.Sequences.{after, afterAll, events, eventsAll};
 use crate::calls::Call;
+use crate::computed::hear;
+use crate::computed::offer;
+use crate::computed::round;
+use crate::computed::send;
+use crate::computed::settle;
+use crate::computed::tick;
 use link::Link;
 use records::Fixed;
 use records::RecordKind;
@@ -18,22 +24,22 @@ pub fn perform<F: Shaped, B: Shaped, R: RecordKind>(link: &mut Link<F, B, R>, ca
 {
     match call {
         Call::Offer(r) => {
-            let _ = link.offer(r);
+            let _ = offer(link, r);
         }
         Call::Send => {
-            let _ = link.send();
+            let _ = send(link);
         }
         Call::Hear => {
-            let _ = link.hear();
+            let _ = hear(link);
         }
         Call::Settle => {
-            let _ = link.settle();
+            let _ = settle(link);
         }
         Call::Tick => {
-            let _ = link.tick();
+            let _ = tick(link);
         }
         Call::Round => {
-            let _ = link.round();
+            let _ = round(link);
         }
     }
 }

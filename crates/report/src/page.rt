@@ -2,7 +2,7 @@
 ghost use mathlib.Core.List.{[], _∷_};
 ghost use mathlib.Core.Path.{_≡_};
 ghost use Prim.Native.Nat.{_+_, _≤_, _<_};
-ghost use lib.ListN.{length};
+ghost use lib.ListN.{length, set};
 ghost use Rattle.std.specs.Written.{decimal};
 ghost use Rattle.text.specs.Hex.{hexDigit, hexDigits};
 ghost use Rattle.report.specs.Pages.{Room, Wrote};
@@ -11,8 +11,15 @@ pub(crate) fn put_byte(page: &mut [u8], at: usize, byte: u8) -> usize
     requires { ⌜ Room (now page) at (byte ∷ []) ⌝ }
     ensures { λ r. ⌜ Wrote (now (page .entry)) at (byte ∷ []) (now (page .exit)) r ⌝ }
 {
-    page[at] = byte;
+    store(page, at, byte);
     at + 1
+}
+
+fn store(page: &mut [u8], at: usize, byte: u8)
+    requires { ⌜ at < length (now page) ⌝ }
+    ensures { λ _. ⌜ now (page .exit) ≡ set (now (page .entry)) at byte ⌝ }
+{
+    page[at] = byte;
 }
 
 pub(crate) fn put_text(page: &mut [u8], at: usize, text: &[u8]) -> usize
