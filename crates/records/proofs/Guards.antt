@@ -1,9 +1,9 @@
 -- What a value behind a test is. Assumes nothing.
-use mathlib.Core.Path.{_≡_, refl, ap, sym}
+use mathlib.Core.Path.{_≡_, refl, ap}
 use mathlib.Core.Bool.{Bool, true, false, Bool-set}
 use Prim.Native.Nat.{ℕ}
 use native.Mathlib.Omega.{arith}
-use Rattle.std.specs.declared.option.Option.the-variants.{Some, None}
+use Rattle.std.specs.declared.option.Option.the-variants.{Some}
 use Rattle.std.proofs.shelf.Tests.{false≢true}
 use Rattle.wire.specs.Words.{given}
 use Rattle.records.specs.Guard.{guarded}
@@ -15,10 +15,6 @@ given-some false x y e = absurd (let z : _≡_ {A = ℕ} 0 1 = cc in omega arith
 pub guarded-true : {T : Type 0} (b : Bool) (make : b ≡ true → T) (e : b ≡ true) → guarded b make ≡ Some (make e)
 guarded-true true make e = ap (λ q. Some (make q)) (Bool-set true true refl e)
 guarded-true false make e = absurd (false≢true e)
-
-pub guarded-false : {T : Type 0} (b : Bool) (make : b ≡ true → T) → b ≡ false → guarded b make ≡ None
-guarded-false true make e = absurd (false≢true (sym e))
-guarded-false false make e = refl
 
 pub guarded-some : {T : Type 0} (b : Bool) (make : b ≡ true → T) (r : T) → guarded b make ≡ Some r → (e : b ≡ true) × (make e ≡ r)
 guarded-some true make r e = (refl, cc)

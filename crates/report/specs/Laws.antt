@@ -31,7 +31,7 @@ abbrev pub afterLines : {R Rec : Type 0} → ℕ → (R → Rec → ℕ) → (R 
 afterLines number payload reads l [] = l
 afterLines number payload reads l (line ∷ lines) = afterLines number payload reads (answered number payload reads (orderOf line) l .after) lines
 
--- the observer of the run that the lines are
+-- the observer after the lines
 abbrev pub benchObserver : {R Rec : Type 0} → BenchKind R Rec → ℕ → Shape → Shape → List (List ℕ) → Observer
 benchObserver k labels forward back lines = afterLines (k .number) (k .payload) (k .reads) (newOf (k .kind) labels forward back (k .first)) lines .observer
 
@@ -60,7 +60,7 @@ startsWell (first ∷ lines) = makesLink (startOf first)
 abbrev pub OneMore : List ℕ → Type 0
 OneMore script = startsWell (linesOf script) ≡ true → length (linesOf (reportText script)) ≡ length (linesOf script) + 1
 
--- Then the last line has the numbers of the observer of the run that the lines are.
+-- Then the last line has the numbers of the observer after the lines.
 abbrev pub EndsSound : List ℕ → Type 0
 EndsSound script = startsWell (linesOf script) ≡ true → (answers : List ℕ) × (reportText script ≡ answers ++ soundText (observerOf (linesOf script)))
 
