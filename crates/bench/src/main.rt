@@ -1,4 +1,6 @@
 // Prints the report of the script on standard input. Where it is refused, names the refusal on standard error.
+#![tactic(auto)]
+
 use report::report;
 use std::io;
 use std::io::{Read, Write};

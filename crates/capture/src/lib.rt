@@ -1,4 +1,6 @@
 // A capture of the wire: lines of sixteen hexadecimal digits, and what their words carry.
+#![tactic(auto)]
+
 pub mod listing;
 pub mod message;
 pub mod tally;

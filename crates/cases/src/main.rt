@@ -1,4 +1,6 @@
 // Runs the report of each script in a file of cases on standard input, and compares it with what another program says.
+#![tactic(auto)]
+
 use comparing::{agrees, split_case};
 use std::io;
 use std::io::{Read, Write};

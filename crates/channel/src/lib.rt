@@ -1,4 +1,6 @@
 // A channel: words on their way from one end of a wire to the other.
+#![tactic(auto)]
+
 ghost use Rattle.std.specs.Prelude.{◌≡◌, ℕ, Bool, List, length, Result};
 ghost use Rattle.wire.specs.declared.refusal.Refusal.{Refusal};
 ghost use Rattle.wire.specs.Refusals.{Answer};

@@ -1,4 +1,6 @@
 // Tests of the channels at their edges.
+#![tactic(auto)]
+
 #[cfg(test)]
 mod lines;
 #[cfg(test)]

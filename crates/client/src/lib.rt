@@ -1,4 +1,6 @@
 // A client of the link, written from outside: what it promises is proved from the contracts of the link's public calls alone.
+#![tactic(auto)]
+
 ghost use Rattle.std.specs.Prelude.{◌≡◌, ◌+◌, ◌<◌, ◌≤◌, IfOk, OnOk};
 ghost use Rattle.recovery.specs.Check.{checked_link};
 ghost use Rattle.channel.specs.Behaviours.{behaviour_of};

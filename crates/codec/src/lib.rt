@@ -1,4 +1,6 @@
 // The words of a link: how its labels and records are written, and what any word reads as at either end.
+#![tactic(auto)]
+
 pub mod config;
 mod reading;
 

@@ -1,4 +1,6 @@
 // Commands: what a console asks of a bench.
+#![tactic(auto)]
+
 pub mod command;
 pub mod table;
 

@@ -1,4 +1,6 @@
 // Says what each word of a captured wire carries. Reads the capture from standard input.
+#![tactic(auto)]
+
 use capture::report;
 use std::io;
 use std::io::Read;

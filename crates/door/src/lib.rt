@@ -1,5 +1,7 @@
 // The door for programs in C and Rust: functions over numbers and bytes. Each answers 0 or the number of a refusal. What it
 // finds goes out through its last parameters; a refused call leaves them as they were.
+#![tactic(auto)]
+
 pub mod commands;
 pub mod readings;
 pub mod reports;

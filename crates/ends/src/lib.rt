@@ -1,4 +1,6 @@
 // The two ends of a link, and the observer that counts its exchanges.
+#![tactic(auto)]
+
 pub mod observer;
 pub mod receiver;
 pub mod sender;

@@ -1,4 +1,6 @@
 // Tests of texts, fields, words, record kinds and captures at their edges.
+#![tactic(auto)]
+
 #[cfg(test)]
 mod captures;
 #[cfg(test)]

@@ -1,4 +1,6 @@
 // Answers the lines on standard input, which ask links for what no script of the bench reaches.
+#![tactic(auto)]
+
 use lab_lines::answers;
 use std::io;
 use std::io::Read;

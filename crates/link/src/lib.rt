@@ -1,4 +1,6 @@
 // The link: two ends, two channels, and the calls that carry records from one to the other.
+#![tactic(auto)]
+
 pub mod state;
 
 pub use codec::Config;

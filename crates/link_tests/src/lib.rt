@@ -1,4 +1,6 @@
 // Tests of the link over rings and over the second set-up.
+#![tactic(auto)]
+
 #[cfg(test)]
 mod answers;
 #[cfg(test)]

@@ -1,4 +1,6 @@
 // The link over channels that have shapes: what calls and faults do to it is computed, to the last word.
+#![tactic(auto)]
+
 pub mod calls;
 mod computed;
 pub mod disturbing;

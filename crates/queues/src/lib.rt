@@ -1,4 +1,6 @@
 // Channels of fixed memory: a ring, and a delay line.
+#![tactic(auto)]
+
 pub mod line;
 pub mod ring;
 

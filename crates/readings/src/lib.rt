@@ -1,4 +1,6 @@
 // Readings: what a bench measures.
+#![tactic(auto)]
+
 pub mod reading;
 
 pub use reading::kind::Readings;

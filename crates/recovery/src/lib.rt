@@ -1,4 +1,6 @@
 // Recovery: from any state of its ends and channels, a link delivers every record once and in order again, after a known number of exchanges.
+#![tactic(auto)]
+
 ghost use Rattle.channel.specs.Behaviours.{behaviour_of};
 ghost use Rattle.recovery.specs.Example.{Happens};
 ghost use Rattle.recovery.specs.Findings.{NamesFirst};

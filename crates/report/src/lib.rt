@@ -1,4 +1,6 @@
 // The report of a script: a line for each line, written to a page.
+#![tactic(auto)]
+
 mod page;
 pub mod reply;
 pub mod reporting;

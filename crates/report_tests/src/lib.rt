@@ -1,4 +1,6 @@
 // Tests of the report at its edges.
+#![tactic(auto)]
+
 #[cfg(test)]
 mod edges;
 #[cfg(test)]

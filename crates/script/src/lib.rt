@@ -1,4 +1,6 @@
 // Scripts for the bench: what their lines ask for.
+#![tactic(auto)]
+
 pub mod line;
 pub mod order;
 pub mod start;

@@ -1,4 +1,6 @@
 // The two standard set-ups of a link's channels, forward and back.
+#![tactic(auto)]
+
 ghost use Rattle.std.specs.Prelude.{◌≡◌, []};
 ghost use Rattle.queues.specs.Rings.{ring_means};
 ghost use Rattle.setups.specs.Setups.{first_forward, first_back, second_forward, second_back};

@@ -1,4 +1,6 @@
 // Channels that move as their shapes: stacks of rings, delay lines, losses and relays whose calls can be computed.
+#![tactic(auto)]
+
 ghost use Rattle.channel.specs.Meaning.{behaviour};
 ghost use Rattle.shapes.specs.Shapes.{Shape};
 ghost use Rattle.shapes.specs.Moves.{Moves};

@@ -1,5 +1,7 @@
 // Trials of the recovery promise: stacks of channels, starts by chance, calls by chance, and a table of what was found. The
 // arguments are a seed and a number of starts for each stack.
+#![tactic(auto)]
+
 mod stacks;
 
 use channel::Channel;

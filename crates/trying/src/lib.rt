@@ -1,4 +1,6 @@
 // Trials: links that start in any state, any calls on them, and whether what is promised comes true.
+#![tactic(auto)]
+
 pub mod dice;
 pub mod start;
 pub mod table;

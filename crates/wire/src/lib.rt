@@ -1,4 +1,6 @@
 // The wire: the words that carry records and acknowledgements, and why a call is refused.
+#![tactic(auto)]
+
 pub mod bits;
 pub mod refusal;
 pub mod word;

@@ -1,4 +1,6 @@
 // The promise that a link recovers is about something: links that are handed over past their check, and what they go through.
+#![tactic(auto)]
+
 ghost use Rattle.std.specs.Prelude.{◌≡◌, true, false, ◌&&◌, leb, [], ◌∷◌, if◌then◌else◌, Ok, Err, nat_le};
 ghost use Rattle.wire.specs.declared.refusal.Refusal.TheVariants.{Labels};
 ghost use Rattle.link.specs.States.{state_of};

@@ -1,4 +1,6 @@
 // Worked cases: values that the definitions must give, in one table.
+#![tactic(auto)]
+
 ghost use Rattle.std.specs.Prelude.{◌≡◌, true};
 ghost use Rattle.worked.specs.Cases.{all_pass};
 ghost use Rattle.worked.specs.Table.{cases};

@@ -7,11 +7,11 @@ use Rattle.fields.proofs.decimal.folded.Goals as goal
 small : (c : goal.In-Some) → c.in-Some.figure < 10
 small c = c.in-Some.ensures.small
 
-pub overflow-mul-value : goal.overflow-mul-value
-overflow-mul-value c = omega (arith, fits c.loop-byte.value c.in-Some.figure c.loop-byte.byte-index c.loop-byte.invariant.1 (small c) (omega arith))
+pub overflow_mul-value : goal.overflow_mul-value
+overflow_mul-value c = omega (arith, fits c.loop-byte.value c.in-Some.figure c.loop-byte.byte-index c.loop-byte.invariant.1 (small c) (omega arith))
 
-pub overflow-add-value : goal.overflow-add-value
-overflow-add-value c = omega (arith, fits c.loop-byte.value c.in-Some.figure c.loop-byte.byte-index c.loop-byte.invariant.1 (small c) (omega arith))
+pub overflow_add-value : goal.overflow_add-value
+overflow_add-value c = omega (arith, fits c.loop-byte.value c.in-Some.figure c.loop-byte.byte-index c.loop-byte.invariant.1 (small c) (omega arith))
 
 pub returns-in-None : goal.returns-in-None
 returns-in-None c =

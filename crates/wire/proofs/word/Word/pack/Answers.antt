@@ -10,7 +10,7 @@ fitting v k h l = omega arith
 
 pub returns : goal.returns
 returns c =
-    let v = c.upper-bits-v in
-    let k = c.check-of in
+    let v = c.upper_bits-v in
+    let k = c.check_of in
     let e = c.join.ensures ∙ fitting v.result k.result v.ensures.bound k.ensures.bound ∙ ap (λ n. v.result * 2 ^ 16 + n) k.ensures.value ∙ ap (checked narrow) v.ensures.value in
     record { value = e; back = ap reads e ∙ packed-reads c.args.self }
