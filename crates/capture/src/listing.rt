@@ -29,7 +29,8 @@ fn add_line(page: &mut String, found: Result<Message, Fault>) -> fmt::Result
     ensures { OnOk result (string_bytes page.new ≡ string_bytes page.old ++ line_text found) }
 {
     match found {
-        Ok(message) => writeln!(page, "{message}"),
-        Err(fault) => writeln!(page, "{fault}"),
+        Ok(message) => writeln!(page, "{message}")?,
+        Err(fault) => writeln!(page, "{fault}")?,
     }
+    Ok(())
 }

@@ -1,5 +1,5 @@
 pub mod decode;
-pub mod text;
+pub mod shown;
 
 use commands::Command;
 use readings::Reading;

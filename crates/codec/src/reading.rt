@@ -30,7 +30,7 @@ struct Acks<'a, R> {
 }
 
 impl<'a, R: RecordKind> LabelReader for Words<'a, R> {
-    ghost label_in = { λ s bits. word_label (words_of R.RecordKind Number-as-Fixed s.config.now) bits };
+    ghost label_in = { λ s bits. word_label (words_of R.RecordKind R.Number.Fixed s.config.now) bits };
 
     fn label_in(&self, bits: u64) -> Option<u8> {
         match self.config.read_word(bits) {
@@ -75,7 +75,7 @@ fn words_fit<C: Channel, L: LabelReader>(channel: &C, reader: &L, label: u8) -> 
 impl<R: RecordKind> Config<R> {
     // Whether every word in sight on a forward channel is spoilt or carries this label.
     pub fn words_carry<C: Channel>(&self, channel: &C, label: u8) -> bool
-        ensures { result ≡ all_fit (word_label (words_of R.RecordKind Number-as-Fixed self.now)) label (in_sight ((behaviour_of C.Channel).means channel.now)) }
+        ensures { result ≡ all_fit (word_label (words_of R.RecordKind R.Number.Fixed self.now)) label (in_sight ((behaviour_of C.Channel).means channel.now)) }
     {
         words_fit(channel, &Words { config: self }, label)
     }

@@ -19,9 +19,9 @@ pub(crate) fn offer<F: Shaped, B: Shaped, R: RecordKind>(
     link: &mut Link<F, B, R>,
     r: R::Record,
 ) -> Result<(), Refusal>
-    ensures answer { result ≡ (offer_of (words_of R.RecordKind Number-as-Fixed) (model_of F.Shaped.shape B.Shaped.shape link.old) r).answer }
-    ensures after { model_of F.Shaped.shape B.Shaped.shape link.new ≡ (offer_of (words_of R.RecordKind Number-as-Fixed) (model_of F.Shaped.shape B.Shaped.shape link.old) r).after }
-    ensures run { Run (words_of R.RecordKind Number-as-Fixed) (behaviour_of F.Channel) (behaviour_of B.Channel) (state_of link.old) (events (words_of R.RecordKind Number-as-Fixed) (model_of F.Shaped.shape B.Shaped.shape link.old) (Offer r)) (state_of link.new) }
+    ensures answer { result ≡ (offer_of (words_of R.RecordKind R.Number.Fixed) (model_of F.Shaped.shape B.Shaped.shape link.old) r).answer }
+    ensures after { model_of F.Shaped.shape B.Shaped.shape link.new ≡ (offer_of (words_of R.RecordKind R.Number.Fixed) (model_of F.Shaped.shape B.Shaped.shape link.old) r).after }
+    ensures run { Run (words_of R.RecordKind R.Number.Fixed) (behaviour_of F.Channel) (behaviour_of B.Channel) (state_of link.old) (events (words_of R.RecordKind R.Number.Fixed) (model_of F.Shaped.shape B.Shaped.shape link.old) (Offer r)) (state_of link.new) }
 {
     link.offer(r)
 }
@@ -30,9 +30,9 @@ pub(crate) fn offer<F: Shaped, B: Shaped, R: RecordKind>(
 pub(crate) fn send<F: Shaped, B: Shaped, R: RecordKind>(
     link: &mut Link<F, B, R>,
 ) -> Result<(), Refusal>
-    ensures answer { result ≡ (send_of (words_of R.RecordKind Number-as-Fixed) (model_of F.Shaped.shape B.Shaped.shape link.old)).answer }
-    ensures after { model_of F.Shaped.shape B.Shaped.shape link.new ≡ (send_of (words_of R.RecordKind Number-as-Fixed) (model_of F.Shaped.shape B.Shaped.shape link.old)).after }
-    ensures run { Run (words_of R.RecordKind Number-as-Fixed) (behaviour_of F.Channel) (behaviour_of B.Channel) (state_of link.old) (events (words_of R.RecordKind Number-as-Fixed) (model_of F.Shaped.shape B.Shaped.shape link.old) Send) (state_of link.new) }
+    ensures answer { result ≡ (send_of (words_of R.RecordKind R.Number.Fixed) (model_of F.Shaped.shape B.Shaped.shape link.old)).answer }
+    ensures after { model_of F.Shaped.shape B.Shaped.shape link.new ≡ (send_of (words_of R.RecordKind R.Number.Fixed) (model_of F.Shaped.shape B.Shaped.shape link.old)).after }
+    ensures run { Run (words_of R.RecordKind R.Number.Fixed) (behaviour_of F.Channel) (behaviour_of B.Channel) (state_of link.old) (events (words_of R.RecordKind R.Number.Fixed) (model_of F.Shaped.shape B.Shaped.shape link.old) Send) (state_of link.new) }
 {
     link.send()
 }
@@ -41,10 +41,10 @@ pub(crate) fn send<F: Shaped, B: Shaped, R: RecordKind>(
 pub(crate) fn hear<F: Shaped, B: Shaped, R: RecordKind>(
     link: &mut Link<F, B, R>,
 ) -> (Result<(), Refusal>, Result<(), Refusal>)
-    ensures heard { result.0 ≡ (hear_of (words_of R.RecordKind Number-as-Fixed) (model_of F.Shaped.shape B.Shaped.shape link.old)).heard }
-    ensures reply { result.1 ≡ (hear_of (words_of R.RecordKind Number-as-Fixed) (model_of F.Shaped.shape B.Shaped.shape link.old)).reply }
-    ensures after { model_of F.Shaped.shape B.Shaped.shape link.new ≡ (hear_of (words_of R.RecordKind Number-as-Fixed) (model_of F.Shaped.shape B.Shaped.shape link.old)).after }
-    ensures run { Run (words_of R.RecordKind Number-as-Fixed) (behaviour_of F.Channel) (behaviour_of B.Channel) (state_of link.old) (events (words_of R.RecordKind Number-as-Fixed) (model_of F.Shaped.shape B.Shaped.shape link.old) Hear) (state_of link.new) }
+    ensures heard { result.0 ≡ (hear_of (words_of R.RecordKind R.Number.Fixed) (model_of F.Shaped.shape B.Shaped.shape link.old)).heard }
+    ensures reply { result.1 ≡ (hear_of (words_of R.RecordKind R.Number.Fixed) (model_of F.Shaped.shape B.Shaped.shape link.old)).reply }
+    ensures after { model_of F.Shaped.shape B.Shaped.shape link.new ≡ (hear_of (words_of R.RecordKind R.Number.Fixed) (model_of F.Shaped.shape B.Shaped.shape link.old)).after }
+    ensures run { Run (words_of R.RecordKind R.Number.Fixed) (behaviour_of F.Channel) (behaviour_of B.Channel) (state_of link.old) (events (words_of R.RecordKind R.Number.Fixed) (model_of F.Shaped.shape B.Shaped.shape link.old) Hear) (state_of link.new) }
 {
     link.hear()
 }
@@ -53,9 +53,9 @@ pub(crate) fn hear<F: Shaped, B: Shaped, R: RecordKind>(
 pub(crate) fn settle<F: Shaped, B: Shaped, R: RecordKind>(
     link: &mut Link<F, B, R>,
 ) -> Result<(), Refusal>
-    ensures answer { result ≡ (settle_of (words_of R.RecordKind Number-as-Fixed) (model_of F.Shaped.shape B.Shaped.shape link.old)).answer }
-    ensures after { model_of F.Shaped.shape B.Shaped.shape link.new ≡ (settle_of (words_of R.RecordKind Number-as-Fixed) (model_of F.Shaped.shape B.Shaped.shape link.old)).after }
-    ensures run { Run (words_of R.RecordKind Number-as-Fixed) (behaviour_of F.Channel) (behaviour_of B.Channel) (state_of link.old) (events (words_of R.RecordKind Number-as-Fixed) (model_of F.Shaped.shape B.Shaped.shape link.old) Settle) (state_of link.new) }
+    ensures answer { result ≡ (settle_of (words_of R.RecordKind R.Number.Fixed) (model_of F.Shaped.shape B.Shaped.shape link.old)).answer }
+    ensures after { model_of F.Shaped.shape B.Shaped.shape link.new ≡ (settle_of (words_of R.RecordKind R.Number.Fixed) (model_of F.Shaped.shape B.Shaped.shape link.old)).after }
+    ensures run { Run (words_of R.RecordKind R.Number.Fixed) (behaviour_of F.Channel) (behaviour_of B.Channel) (state_of link.old) (events (words_of R.RecordKind R.Number.Fixed) (model_of F.Shaped.shape B.Shaped.shape link.old) Settle) (state_of link.new) }
 {
     link.settle()
 }
@@ -64,9 +64,9 @@ pub(crate) fn settle<F: Shaped, B: Shaped, R: RecordKind>(
 pub(crate) fn tick<F: Shaped, B: Shaped, R: RecordKind>(
     link: &mut Link<F, B, R>,
 ) -> Result<(), Refusal>
-    ensures answer { result ≡ (tick_of (words_of R.RecordKind Number-as-Fixed) (model_of F.Shaped.shape B.Shaped.shape link.old)).answer }
-    ensures after { model_of F.Shaped.shape B.Shaped.shape link.new ≡ (tick_of (words_of R.RecordKind Number-as-Fixed) (model_of F.Shaped.shape B.Shaped.shape link.old)).after }
-    ensures run { Run (words_of R.RecordKind Number-as-Fixed) (behaviour_of F.Channel) (behaviour_of B.Channel) (state_of link.old) (events (words_of R.RecordKind Number-as-Fixed) (model_of F.Shaped.shape B.Shaped.shape link.old) Tick) (state_of link.new) }
+    ensures answer { result ≡ (tick_of (words_of R.RecordKind R.Number.Fixed) (model_of F.Shaped.shape B.Shaped.shape link.old)).answer }
+    ensures after { model_of F.Shaped.shape B.Shaped.shape link.new ≡ (tick_of (words_of R.RecordKind R.Number.Fixed) (model_of F.Shaped.shape B.Shaped.shape link.old)).after }
+    ensures run { Run (words_of R.RecordKind R.Number.Fixed) (behaviour_of F.Channel) (behaviour_of B.Channel) (state_of link.old) (events (words_of R.RecordKind R.Number.Fixed) (model_of F.Shaped.shape B.Shaped.shape link.old) Tick) (state_of link.new) }
 {
     link.tick()
 }
@@ -79,12 +79,12 @@ pub(crate) fn round<F: Shaped, B: Shaped, R: RecordKind>(
     (Result<(), Refusal>, Result<(), Refusal>),
     Result<(), Refusal>,
 )
-    ensures sent { result.0 ≡ (round_of (words_of R.RecordKind Number-as-Fixed) (model_of F.Shaped.shape B.Shaped.shape link.old)).sent }
-    ensures heard { result.1.0 ≡ (round_of (words_of R.RecordKind Number-as-Fixed) (model_of F.Shaped.shape B.Shaped.shape link.old)).heard }
-    ensures reply { result.1.1 ≡ (round_of (words_of R.RecordKind Number-as-Fixed) (model_of F.Shaped.shape B.Shaped.shape link.old)).reply }
-    ensures settled { result.2 ≡ (round_of (words_of R.RecordKind Number-as-Fixed) (model_of F.Shaped.shape B.Shaped.shape link.old)).settled }
-    ensures after { model_of F.Shaped.shape B.Shaped.shape link.new ≡ (round_of (words_of R.RecordKind Number-as-Fixed) (model_of F.Shaped.shape B.Shaped.shape link.old)).after }
-    ensures run { Run (words_of R.RecordKind Number-as-Fixed) (behaviour_of F.Channel) (behaviour_of B.Channel) (state_of link.old) (events (words_of R.RecordKind Number-as-Fixed) (model_of F.Shaped.shape B.Shaped.shape link.old) Round) (state_of link.new) }
+    ensures sent { result.0 ≡ (round_of (words_of R.RecordKind R.Number.Fixed) (model_of F.Shaped.shape B.Shaped.shape link.old)).sent }
+    ensures heard { result.1.0 ≡ (round_of (words_of R.RecordKind R.Number.Fixed) (model_of F.Shaped.shape B.Shaped.shape link.old)).heard }
+    ensures reply { result.1.1 ≡ (round_of (words_of R.RecordKind R.Number.Fixed) (model_of F.Shaped.shape B.Shaped.shape link.old)).reply }
+    ensures settled { result.2 ≡ (round_of (words_of R.RecordKind R.Number.Fixed) (model_of F.Shaped.shape B.Shaped.shape link.old)).settled }
+    ensures after { model_of F.Shaped.shape B.Shaped.shape link.new ≡ (round_of (words_of R.RecordKind R.Number.Fixed) (model_of F.Shaped.shape B.Shaped.shape link.old)).after }
+    ensures run { Run (words_of R.RecordKind R.Number.Fixed) (behaviour_of F.Channel) (behaviour_of B.Channel) (state_of link.old) (events (words_of R.RecordKind R.Number.Fixed) (model_of F.Shaped.shape B.Shaped.shape link.old) Round) (state_of link.new) }
 {
     link.round()
 }

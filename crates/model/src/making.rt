@@ -30,7 +30,7 @@ pub fn make<F: Shaped, B: Shaped, R: RecordKind>(
 // The observer counts anew. A link past its check recovers from here.
 pub fn hand_over<F: Shaped, B: Shaped, R: RecordKind>(link: &mut Link<F, B, R>)
     ensures after { model_of F.Shaped.shape B.Shaped.shape link.new ≡ handover_of (model_of F.Shaped.shape B.Shaped.shape link.old) }
-    ensures recovers { checked_link (words_of R.RecordKind Number-as-Fixed) shape_behaviour shape_behaviour 256 (model_of F.Shaped.shape B.Shaped.shape link.new) ≡ Ok tt → Recovers (words_of R.RecordKind Number-as-Fixed) (behaviour_of F.Channel) (behaviour_of B.Channel) (state_of link.new) }
+    ensures recovers { checked_link (words_of R.RecordKind R.Number.Fixed) shape_behaviour shape_behaviour 256 (model_of F.Shaped.shape B.Shaped.shape link.new) ≡ Ok tt → Recovers (words_of R.RecordKind R.Number.Fixed) (behaviour_of F.Channel) (behaviour_of B.Channel) (state_of link.new) }
 {
     link.handover();
 }

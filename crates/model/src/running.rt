@@ -15,8 +15,8 @@ use shapes::Shaped;
 
 // One call, whatever it answers: what it leaves, and the run that it is.
 pub fn perform<F: Shaped, B: Shaped, R: RecordKind>(link: &mut Link<F, B, R>, call: Call<R::Record>)
-    ensures after { model_of F.Shaped.shape B.Shaped.shape link.new ≡ after (words_of R.RecordKind Number-as-Fixed) (model_of F.Shaped.shape B.Shaped.shape link.old) call }
-    ensures run { Run (words_of R.RecordKind Number-as-Fixed) (behaviour_of F.Channel) (behaviour_of B.Channel) (state_of link.old) (events (words_of R.RecordKind Number-as-Fixed) (model_of F.Shaped.shape B.Shaped.shape link.old) call) (state_of link.new) }
+    ensures after { model_of F.Shaped.shape B.Shaped.shape link.new ≡ after (words_of R.RecordKind R.Number.Fixed) (model_of F.Shaped.shape B.Shaped.shape link.old) call }
+    ensures run { Run (words_of R.RecordKind R.Number.Fixed) (behaviour_of F.Channel) (behaviour_of B.Channel) (state_of link.old) (events (words_of R.RecordKind R.Number.Fixed) (model_of F.Shaped.shape B.Shaped.shape link.old) call) (state_of link.new) }
 {
     match call {
         Call::Offer(r) => {
@@ -42,8 +42,8 @@ pub fn perform<F: Shaped, B: Shaped, R: RecordKind>(link: &mut Link<F, B, R>, ca
 
 // These calls, one after another: what they leave, and the run that they are.
 pub fn run<F: Shaped, B: Shaped, R: RecordKind>(link: &mut Link<F, B, R>, calls: &[Call<R::Record>])
-    ensures after { model_of F.Shaped.shape B.Shaped.shape link.new ≡ after_all (words_of R.RecordKind Number-as-Fixed) (model_of F.Shaped.shape B.Shaped.shape link.old) calls.now }
-    ensures run { Run (words_of R.RecordKind Number-as-Fixed) (behaviour_of F.Channel) (behaviour_of B.Channel) (state_of link.old) (events_all (words_of R.RecordKind Number-as-Fixed) (model_of F.Shaped.shape B.Shaped.shape link.old) calls.now) (state_of link.new) }
+    ensures after { model_of F.Shaped.shape B.Shaped.shape link.new ≡ after_all (words_of R.RecordKind R.Number.Fixed) (model_of F.Shaped.shape B.Shaped.shape link.old) calls.now }
+    ensures run { Run (words_of R.RecordKind R.Number.Fixed) (behaviour_of F.Channel) (behaviour_of B.Channel) (state_of link.old) (events_all (words_of R.RecordKind R.Number.Fixed) (model_of F.Shaped.shape B.Shaped.shape link.old) calls.now) (state_of link.new) }
 {
     for call in calls {
         perform(link, *call);

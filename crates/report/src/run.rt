@@ -22,7 +22,7 @@ pub(crate) fn run<F: Shaped, B: Shaped, R: RecordKind>(
     start: usize,
 ) -> usize
     requires { start + (12 * bytes_in (lines_of script.now) + 21) ≤ length page.old }
-    ensures text { Wrote page.old start (lines_text Number-as-Fixed.worth R.RecordKind.payload R.RecordKind.reads (model_of F.Shaped.shape B.Shaped.shape link.old) (lines_of script.now)) page.new result }
+    ensures text { Wrote page.old start (lines_text R.Number.Fixed.worth R.RecordKind.payload R.RecordKind.reads (model_of F.Shaped.shape B.Shaped.shape link.old) (lines_of script.now)) page.new result }
     ensures short { result ≤ start + (12 * bytes_in (lines_of script.now) + 21) }
 {
     let mut rest = script;

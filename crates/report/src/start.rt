@@ -87,7 +87,7 @@ fn serve<F: Shaped + Drop, B: Shaped + Drop, R: RecordKind + Drop>(
     page: &mut [u8],
 ) -> usize
     requires { (length lines.now ≤ 4096) × (50000 ≤ length page.old) }
-    ensures text { Wrote page.old 0 (opened_text Number-as-Fixed.worth R.RecordKind.payload R.RecordKind.reads kind labels (F.Shaped.shape forward) (B.Shaped.shape back) first (lines_of lines.now)) page.new result }
+    ensures text { Wrote page.old 0 (opened_text R.Number.Fixed.worth R.RecordKind.payload R.RecordKind.reads kind labels (F.Shaped.shape forward) (B.Shaped.shape back) first (lines_of lines.now)) page.new result }
     ensures short { result ≤ 50000 }
 {
     match check(&forward, &back, labels) {

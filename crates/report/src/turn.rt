@@ -19,7 +19,7 @@ pub(crate) fn answer<F: Shaped, B: Shaped, R: RecordKind>(
     link: &mut Link<F, B, R>,
     order: Result<Order, Refusal>,
 ) -> Reply
-    ensures { outcome result (model_of F.Shaped.shape B.Shaped.shape link.new) ≡ answered Number-as-Fixed.worth R.RecordKind.payload R.RecordKind.reads order (model_of F.Shaped.shape B.Shaped.shape link.old) }
+    ensures { outcome result (model_of F.Shaped.shape B.Shaped.shape link.new) ≡ answered R.Number.Fixed.worth R.RecordKind.payload R.RecordKind.reads order (model_of F.Shaped.shape B.Shaped.shape link.old) }
 {
     match order {
         Ok(order) => obey(link, order),
@@ -28,7 +28,7 @@ pub(crate) fn answer<F: Shaped, B: Shaped, R: RecordKind>(
 }
 
 fn obey<F: Shaped, B: Shaped, R: RecordKind>(link: &mut Link<F, B, R>, order: Order) -> Reply
-    ensures { outcome result (model_of F.Shaped.shape B.Shaped.shape link.new) ≡ obeyed Number-as-Fixed.worth R.RecordKind.payload R.RecordKind.reads order (model_of F.Shaped.shape B.Shaped.shape link.old) }
+    ensures { outcome result (model_of F.Shaped.shape B.Shaped.shape link.new) ≡ obeyed R.Number.Fixed.worth R.RecordKind.payload R.RecordKind.reads order (model_of F.Shaped.shape B.Shaped.shape link.old) }
 {
     match order {
         Order::Offer(payload) => offer(link, payload),
@@ -64,7 +64,7 @@ fn obey<F: Shaped, B: Shaped, R: RecordKind>(link: &mut Link<F, B, R>, order: Or
 
 // A payload that is no record is turned away before the link is asked.
 fn offer<F: Shaped, B: Shaped, R: RecordKind>(link: &mut Link<F, B, R>, payload: u64) -> Reply
-    ensures { outcome result (model_of F.Shaped.shape B.Shaped.shape link.new) ≡ offered Number-as-Fixed.worth R.RecordKind.payload R.RecordKind.reads (R.RecordKind.reads link.old.config.kind payload) (model_of F.Shaped.shape B.Shaped.shape link.old) }
+    ensures { outcome result (model_of F.Shaped.shape B.Shaped.shape link.new) ≡ offered R.Number.Fixed.worth R.RecordKind.payload R.RecordKind.reads (R.RecordKind.reads link.old.config.kind payload) (model_of F.Shaped.shape B.Shaped.shape link.old) }
 {
     match link.kind().unpack(payload) {
         Ok(r) => Reply::One(b'o', link.offer(r)),

@@ -67,7 +67,7 @@ fn content_of(word: Word) -> Result<Content, Fault>
 
 // The record in a word of this kind.
 fn record_in<R: RecordKind>(kind: &R, word: Word) -> Result<R::Record, Fault>
-    ensures { result ≡ record_in Number-as-Fixed.worth (R.RecordKind.reads kind.now word.payload) }
+    ensures { result ≡ record_in R.Number.Fixed.worth (R.RecordKind.reads kind.now word.payload) }
 {
     match kind.unpack(word.payload) {
         Ok(record) => Ok(record),

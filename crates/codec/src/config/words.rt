@@ -24,7 +24,7 @@ impl<R> Config<R> {
 impl<R: RecordKind> Config<R> {
     // The word of a record under a label.
     pub fn send_word(&self, label: u8, r: &R::Record) -> u64
-        ensures { result ≡ send_word Number-as-Fixed.worth (R.RecordKind.payload self.now.kind) label r.now }
+        ensures { result ≡ send_word R.Number.Fixed.worth (R.RecordKind.payload self.now.kind) label r.now }
     {
         let payload = self.kind.pack(r);
         let word = Word {
@@ -37,7 +37,7 @@ impl<R: RecordKind> Config<R> {
 
     // The label and the record that a word carries, or nothing where it is spoilt.
     pub fn read_word(&self, bits: u64) -> Option<(u8, R::Record)>
-        ensures { result ≡ read_word self.now.labels Number-as-Fixed.worth (R.RecordKind.reads self.now.kind) bits }
+        ensures { result ≡ read_word self.now.labels R.Number.Fixed.worth (R.RecordKind.reads self.now.kind) bits }
     {
         let Some(word) = Word::read(bits) else {
             return None;

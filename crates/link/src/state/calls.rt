@@ -15,7 +15,7 @@ use wire::Refusal;
 impl<F: Channel, B: Channel, R: RecordKind> Link<F, B, R> {
     // Takes a record in hand under the next label; refused `busy` while an exchange is under way.
     pub fn offer(&mut self, r: R::Record) -> Result<(), Refusal>
-        ensures { Offer (words_of R.RecordKind Number-as-Fixed) (behaviour_of F.Channel) (behaviour_of B.Channel) (state_of self.old) r result (state_of self.new) }
+        ensures { Offer (words_of R.RecordKind R.Number.Fixed) (behaviour_of F.Channel) (behaviour_of B.Channel) (state_of self.old) r result (state_of self.new) }
     {
         if self.sender.is_busy() {
             return Err(Refusal::Busy);
@@ -26,7 +26,7 @@ impl<F: Channel, B: Channel, R: RecordKind> Link<F, B, R> {
 
     // Puts the word of the record in hand on the forward channel; refused `idle` when none is under way.
     pub fn send(&mut self) -> Result<(), Refusal>
-        ensures { Send (words_of R.RecordKind Number-as-Fixed) (behaviour_of F.Channel) (behaviour_of B.Channel) (state_of self.old) result (state_of self.new) }
+        ensures { Send (words_of R.RecordKind R.Number.Fixed) (behaviour_of F.Channel) (behaviour_of B.Channel) (state_of self.old) result (state_of self.new) }
     {
         if !self.sender.is_busy() {
             return Err(Refusal::Idle);
@@ -38,7 +38,7 @@ impl<F: Channel, B: Channel, R: RecordKind> Link<F, B, R> {
     // Takes a word from the forward channel and acknowledges it; a new label is adopted and its record delivered.
     // Answers what was heard, and what the reply's put answered.
     pub fn hear(&mut self) -> (Result<(), Refusal>, Result<(), Refusal>)
-        ensures { Hear (words_of R.RecordKind Number-as-Fixed) (behaviour_of F.Channel) (behaviour_of B.Channel) (state_of self.old) result.0 result.1 (state_of self.new) }
+        ensures { Hear (words_of R.RecordKind R.Number.Fixed) (behaviour_of F.Channel) (behaviour_of B.Channel) (state_of self.old) result.0 result.1 (state_of self.new) }
     {
         let Ok(word) = self.forward.take() else {
             return (Err(Refusal::Silent), Err(Refusal::Silent));
@@ -57,7 +57,7 @@ impl<F: Channel, B: Channel, R: RecordKind> Link<F, B, R> {
 
     // Takes an acknowledgement from the back channel. Under way and with the sender's label, it completes the exchange.
     pub fn settle(&mut self) -> Result<(), Refusal>
-        ensures { Settle (words_of R.RecordKind Number-as-Fixed) (behaviour_of F.Channel) (behaviour_of B.Channel) (state_of self.old) result (state_of self.new) }
+        ensures { Settle (words_of R.RecordKind R.Number.Fixed) (behaviour_of F.Channel) (behaviour_of B.Channel) (state_of self.old) result (state_of self.new) }
     {
         let Ok(word) = self.back.take() else {
             return Err(Refusal::Silent);
@@ -79,7 +79,7 @@ impl<F: Channel, B: Channel, R: RecordKind> Link<F, B, R> {
 
     // One unit of time passes on both channels.
     pub fn tick(&mut self) -> Result<(), Refusal>
-        ensures { Ticks (words_of R.RecordKind Number-as-Fixed) (behaviour_of F.Channel) (behaviour_of B.Channel) (state_of self.old) result (state_of self.new) }
+        ensures { Ticks (words_of R.RecordKind R.Number.Fixed) (behaviour_of F.Channel) (behaviour_of B.Channel) (state_of self.old) result (state_of self.new) }
     {
         self.pass_time();
         Ok(())
@@ -93,7 +93,7 @@ impl<F: Channel, B: Channel, R: RecordKind> Link<F, B, R> {
         (Result<(), Refusal>, Result<(), Refusal>),
         Result<(), Refusal>,
     )
-        ensures { Round (words_of R.RecordKind Number-as-Fixed) (behaviour_of F.Channel) (behaviour_of B.Channel) (state_of self.old) result.0 result.1.0 result.1.1 result.2 (state_of self.new) }
+        ensures { Round (words_of R.RecordKind R.Number.Fixed) (behaviour_of F.Channel) (behaviour_of B.Channel) (state_of self.old) result.0 result.1.0 result.1.1 result.2 (state_of self.new) }
     {
         let sent = self.send();
         let heard = self.hear();

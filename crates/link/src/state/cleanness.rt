@@ -12,7 +12,7 @@ use records::{Fixed, RecordKind};
 impl<F: Channel, B: Channel, R: RecordKind> Link<F, B, R> {
     // Whether the sender is idle, the receiver has its label, and so has every word in sight that is not spoilt.
     pub fn is_clean(&self) -> bool
-        ensures { result ≡ clean (words_of R.RecordKind Number-as-Fixed) (behaviour_of F.Channel) (behaviour_of B.Channel) (state_of self.now) }
+        ensures { result ≡ clean (words_of R.RecordKind R.Number.Fixed) (behaviour_of F.Channel) (behaviour_of B.Channel) (state_of self.now) }
     {
         let label = self.config.read_label(self.sender.label);
         if self.sender.is_busy() {

@@ -53,7 +53,7 @@ impl<F: Channel, B: Channel, R: RecordKind> Link<F, B, R> {
 
     // What `check` answers for the channels and the label count of this link.
     pub fn check(&self) -> Result<(), Refusal>
-        ensures { result ≡ checked_link (words_of R.RecordKind Number-as-Fixed) (behaviour_of F.Channel) (behaviour_of B.Channel) 256 (state_of self.now) }
+        ensures { result ≡ checked_link (words_of R.RecordKind R.Number.Fixed) (behaviour_of F.Channel) (behaviour_of B.Channel) 256 (state_of self.now) }
     {
         check(&self.forward, &self.back, self.config.labels())
     }
@@ -61,7 +61,7 @@ impl<F: Channel, B: Channel, R: RecordKind> Link<F, B, R> {
     // From here on the observer counts anew, and nothing else changes. A link past its check recovers from here.
     pub fn handover(&mut self)
         ensures after { state_of self.new ≡ observed_anew (state_of self.old) }
-        ensures recovers { checked_link (words_of R.RecordKind Number-as-Fixed) (behaviour_of F.Channel) (behaviour_of B.Channel) 256 (state_of self.new) ≡ Ok tt → Recovers (words_of R.RecordKind Number-as-Fixed) (behaviour_of F.Channel) (behaviour_of B.Channel) (state_of self.new) }
+        ensures recovers { checked_link (words_of R.RecordKind R.Number.Fixed) (behaviour_of F.Channel) (behaviour_of B.Channel) 256 (state_of self.new) ≡ Ok tt → Recovers (words_of R.RecordKind R.Number.Fixed) (behaviour_of F.Channel) (behaviour_of B.Channel) (state_of self.new) }
     {
         self.count_anew();
     }

@@ -6,10 +6,10 @@ use Rattle.codec.proofs.Scan.{fit_more, fit_not}
 use Rattle.codec.proofs.reading.words_fit.Goals.{in-Ok+else-not-label-fits, in-default}
 use Rattle.codec.proofs.reading.words_fit.Goals as goal
 
-pub returns-then-not-label-fits : goal.returns-then-not-label-fits
-returns-then-not-label-fits g c =
+pub returns-then-not-label_fits : goal.returns-then-not-label_fits
+returns-then-not-label_fits g c =
     let ws = g.C.Channel.contents c.args.channel.now in
-    let misfit = c.if-not-label-fits.ensures ∙ ap (fits c.args.label) c.label-in.ensures in
+    let misfit = c.if-not-label_fits.ensures ∙ ap (fits c.args.label) c.label_in.ensures in
     fit_not (g.L.LabelReader.label_in c.args.reader.now) c.args.label ws c.loop-at.at (answered (length ws)) c.in-Ok.bits c.in-Ok.ensures misfit (omega (arith, c.load-at-end.ensures))
 
 pub loop-at-preserved : goal.loop-at-preserved
@@ -18,7 +18,7 @@ loop-at-preserved g c =
     elim c.match-peek.branch [
       | in-Ok+else-not-label-fits w ↦
           fit_more (g.L.LabelReader.label_in c.args.reader.now) c.args.label ws c.loop-at.at w.in-Ok.bits w.in-Ok.ensures
-          (w.if-not-label-fits.ensures ∙ ap (fits c.args.label) w.label-in.ensures) c.loop-at.invariant
+          (w.if-not-label_fits.ensures ∙ ap (fits c.args.label) w.label_in.ensures) c.loop-at.invariant
       | in-default w ↦ absurd (omega (arith, refused-past ws c.loop-at.at _ w.in-default.ensures, c.load-at-end.ensures))
     ]
 

@@ -3,10 +3,10 @@ use Rattle.queues.specs.Buffers.{window}
 use Rattle.queues.proofs.Dues.{soon-lowered, window-lowered}
 use Rattle.queues.proofs.line.DelayLine.count_down.Goals as goal
 
-pub invariant-of-self : goal.invariant-of-self
-invariant-of-self c =
+pub invariant_of-self : goal.invariant_of-self
+invariant_of-self c =
     let s = c.args.self.now in
-    (s.limited, (subst (λ (due : List ℕ). (place : ℕ) → get_or due place 0 ≤ s.delay) (sym c.lower.ensures) (soon-lowered s.due s.delay s.soon), tt))
+    record { limited = s.limited; soon = subst (λ (due : List ℕ). (place : ℕ) → get_or due place 0 ≤ s.delay) (sym c.lower.ensures) (soon-lowered s.due s.delay s.soon) }
 
 pub returns : goal.returns
 returns c =

@@ -3,8 +3,8 @@ use Rattle.queues.proofs.Windows.{window-none}
 use Rattle.queues.proofs.Dues.{soon-none}
 use Rattle.queues.proofs.line.DelayLine.empty.Goals as goal
 
-pub invariant-of-result : goal.invariant-of-result
-invariant-of-result c = (search rules, (λ place. soon-none 64 _ place, tt))
+pub invariant_of-result : goal.invariant_of-result
+invariant_of-result c = record { limited = search rules; soon = λ place. soon-none 64 _ place }
 
 pub returns : goal.returns
 returns c =

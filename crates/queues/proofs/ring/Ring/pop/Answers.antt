@@ -13,7 +13,7 @@ returns c =
     let some : 0 < s.load = omega (arith, c.requires, length-window s.words s.head s.load) in
     let here : (s.head + 0) % 64 ≡ s.head % 64 = omega arith in
     record {
-      oldest = c.word-at-word.ensures ∙ ap (λ i. get_or s.words i 0) here ∙ sym (window-first s.words s.head s.load some);
+      oldest = c.word_at-word.ensures ∙ ap (λ i. get_or s.words i 0) here ∙ sym (window-first s.words s.head s.load some);
       words = window-by _ _ _ _ _ _ p.words p.head p.load ∙ window-rest s.words s.head s.load some;
       head = p.head;
       load = p.load;

@@ -6,4 +6,4 @@ use Rattle.readings.proofs.reading.kind.ReadingsRecordKind.unpack.Goals as goal
 
 pub returns : goal.returns
 returns c =
-    sym (ap or_code (fields_read c.args.p _ (sym c.spare-in.ensures ∙ c.if-spare-in-ne0.false) refl (ap side_of (sym c.low.ensures) ∙ sym c.of-bit.ensures) (sym c.low-force.ensures) (sym c.low-pressure.ensures)))
+    sym (ap or_code (fields_read c.args.p _ (sym c.spare_in.ensures ∙ c.if-spare_in-ne0.false) refl (ap side_of (sym c.low.ensures) ∙ sym c.of_bit.ensures) (sym c.low-force.ensures) (sym c.low-pressure.ensures)))
