@@ -3,7 +3,7 @@ use Rattle.channel.proofs.Peeks.{refused-past}
 use Rattle.channel.specs.Meaning.{answered}
 use Rattle.recovery.specs.State.{fits, all_fit}
 use Rattle.codec.proofs.Scan.{fit_more, fit_not}
-use Rattle.codec.proofs.reading.words_fit.Goals.{in-Ok+else-not-label-fits, in-default}
+use Rattle.codec.proofs.reading.words_fit.Goals.{in-Ok+else-not-label_fits, in_default}
 use Rattle.codec.proofs.reading.words_fit.Goals as goal
 
 pub returns-then-not-label_fits : goal.returns-then-not-label_fits
@@ -16,10 +16,10 @@ pub loop-at-preserved : goal.loop-at-preserved
 loop-at-preserved g c =
     let ws = g.C.Channel.contents c.args.channel.now in
     elim c.match-peek.branch [
-      | in-Ok+else-not-label-fits w ↦
+      | in-Ok+else-not-label_fits w ↦
           fit_more (g.L.LabelReader.label_in c.args.reader.now) c.args.label ws c.loop-at.at w.in-Ok.bits w.in-Ok.ensures
           (w.if-not-label_fits.ensures ∙ ap (fits c.args.label) w.label_in.ensures) c.loop-at.invariant
-      | in-default w ↦ absurd (omega (arith, refused-past ws c.loop-at.at _ w.in-default.ensures, c.load-at-end.ensures))
+      | in_default w ↦ absurd (omega (arith, refused-past ws c.loop-at.at _ w.in_default.ensures, c.load-at-end.ensures))
     ]
 
 pub returns : goal.returns
