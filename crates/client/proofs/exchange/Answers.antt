@@ -9,15 +9,15 @@ use Rattle.client.proofs.exchange.Goals as goal
 
 pub returns : goal.returns
 returns g c =
-    let words = codec g.Number.Fixed.worth g.R.RecordKind.payload g.R.RecordKind.reads in
+    let words = codec g.R.Number.Fixed.worth g.R.RecordKind.payload g.R.RecordKind.reads in
     let forward = behaviour_of g.F.Channel in
     let back = behaviour_of g.B.Channel in
     let before = state_of c.args.link.now in
     let after = state_of c.perform.new.link in
     record {
-      answer = c.in-ok-check.ensures;
+      answer = c.in_ok-check.ensures;
       turns = (subst (λ l. Turns words forward back c.args.r l c.args.rounds after) c.handover.ensures.after c.perform.ensures, c.observer.ensures);
       first = found words forward back before (state_of c.handover.new.self) after c.observer.result
-          c.in-ok-check.ensures c.handover.ensures.after c.handover.ensures.recovers (ran words forward back c.perform.ensures) c.observer.ensures;
-      delivered = all-delivered words forward back before (state_of c.handover.new.self) after c.in-ok-check.ensures c.handover.ensures.after c.handover.ensures.recovers;
+          c.in_ok-check.ensures c.handover.ensures.after c.handover.ensures.recovers (ran words forward back c.perform.ensures) c.observer.ensures;
+      delivered = all-delivered words forward back before (state_of c.handover.new.self) after c.in_ok-check.ensures c.handover.ensures.after c.handover.ensures.recovers;
     }

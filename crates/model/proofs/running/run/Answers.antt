@@ -13,7 +13,7 @@ loop-call-init g c = (refl, stop)
 
 pub loop-call-preserved : goal.loop-call-preserved
 loop-call-preserved g c =
-    let words = codec g.Number.Fixed.worth g.R.RecordKind.payload g.R.RecordKind.reads in
+    let words = codec g.R.Number.Fixed.worth g.R.RecordKind.payload g.R.RecordKind.reads in
     let start = shaped_state g.F.Shaped.shape g.B.Shaped.shape (state_of c.args.link.now) in
     let here = shaped_state g.F.Shaped.shape g.B.Shaped.shape (state_of c.loop-call.link) in
     let next = shaped_state g.F.Shaped.shape g.B.Shaped.shape (state_of c.perform.new.link) in (
@@ -23,7 +23,7 @@ loop-call-preserved g c =
 
 pub returns : goal.returns
 returns g c =
-    let words = codec g.Number.Fixed.worth g.R.RecordKind.payload g.R.RecordKind.reads in
+    let words = codec g.R.Number.Fixed.worth g.R.RecordKind.payload g.R.RecordKind.reads in
     let start = shaped_state g.F.Shaped.shape g.B.Shaped.shape (state_of c.args.link.now) in
     record {
       after = fold_all (after words) start c.args.calls.now c.loop-call.call-index _ c.loop-call.invariant.0 c.loop-call-test.false;

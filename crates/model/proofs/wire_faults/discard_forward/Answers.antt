@@ -4,5 +4,5 @@ use Rattle.model.proofs.wire_faults.discard_forward.Goals as goal
 
 pub returns : goal.returns
 returns g c =
-    let is = discard_forward_is g.met.F.Shaped.moves g.B.Shaped.shape (state_of c.args.link.now) c.discard-forward.result (state_of c.discard-forward.new.self) c.discard-forward.ensures in
+    let is = discard_forward_is g.met.F.Shaped.moves g.B.Shaped.shape (state_of c.args.link.now) c.discard_forward.result (state_of c.discard_forward.new.self) c.discard_forward.ensures in
     record { answer = is.0; after = is.1 }

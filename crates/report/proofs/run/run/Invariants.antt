@@ -8,8 +8,8 @@ use Rattle.report.proofs.run.run.Given as goal
 
 abbrev pub invariant-loop-line : goal.invariant-loop-line
 invariant-loop-line g l =
-    Left l.page l.at (lines_text g.Number.Fixed.worth g.R.RecordKind.payload g.R.RecordKind.reads (model_of g.F.Shaped.shape g.B.Shaped.shape l.link) (lines_of l.rest))
-    l.initial.page l.start (lines_text g.Number.Fixed.worth g.R.RecordKind.payload g.R.RecordKind.reads (model_of g.F.Shaped.shape g.B.Shaped.shape l.initial.link) (lines_of l.script))
+    Left l.page l.at (lines_text g.R.Number.Fixed.worth g.R.RecordKind.payload g.R.RecordKind.reads (model_of g.F.Shaped.shape g.B.Shaped.shape l.link) (lines_of l.rest))
+    l.initial.page l.start (lines_text g.R.Number.Fixed.worth g.R.RecordKind.payload g.R.RecordKind.reads (model_of g.F.Shaped.shape g.B.Shaped.shape l.initial.link) (lines_of l.script))
     × (l.at + (12 * bytes_in (lines_of l.rest) + 21) ≤ l.start + (12 * bytes_in (lines_of l.script) + 21))
 
 abbrev pub decreases-loop-line : goal.decreases-loop-line

@@ -11,7 +11,7 @@ run-requires g c = omega (arith, lines_bytes c.args.lines.now, c.put-reply-at.en
 pub returns-in-Err : goal.returns-in-Err
 returns-in-Err g c = record {
   text =
-      refused g.Number.Fixed.worth g.R.RecordKind.payload g.R.RecordKind.reads g.met.F.Shaped.moves g.met.B.Shaped.moves
+      refused g.R.Number.Fixed.worth g.R.RecordKind.payload g.R.RecordKind.reads g.met.F.Shaped.moves g.met.B.Shaped.moves
       c.args.kind c.args.labels c.args.forward c.args.back c.args.first (lines_of c.args.lines.now) c.in-Err.refusal c.in-Err.ensures c.put-reply.ensures.text;
   short = omega (arith, c.put-reply.ensures.short);
 }
@@ -19,7 +19,7 @@ returns-in-Err g c = record {
 pub returns-in-Ok : goal.returns-in-Ok
 returns-in-Ok g c = record {
   text =
-      opened g.Number.Fixed.worth g.R.RecordKind.payload g.R.RecordKind.reads g.met.F.Shaped.moves g.met.B.Shaped.moves
+      opened g.R.Number.Fixed.worth g.R.RecordKind.payload g.R.RecordKind.reads g.met.F.Shaped.moves g.met.B.Shaped.moves
       c.args.kind c.args.labels c.args.forward c.args.back c.args.first (lines_of c.args.lines.now) _ _
       c.in-Ok.ensures c.new-link.ensures c.handover.ensures.after c.put-reply-at.ensures.text c.run.ensures.text;
   short = omega (arith, lines_bytes c.args.lines.now, c.put-reply-at.ensures.short, c.run.ensures.short);

@@ -7,4 +7,4 @@ pub returns : goal.returns
 returns c =
     let xs = c.args.line.now in
     let h : 0 < length xs = omega (arith, ltb-false) in
-    c.by-letter.ensures ∙ sym (by_first order_of xs (get_or xs 0 0) h refl)
+    c.by_letter.ensures ∙ sym (by_first order_of xs (get_or xs 0 0) h refl)

@@ -7,4 +7,4 @@ returns-in-32 c =
     let xs = c.args.rest.now in
     let h : 0 < length xs = omega (arith, ltb-false) in
     let e : get_or xs 0 0 ≡ 32 = omega arith in
-    c.parse-hex.ensures.value ∙ sym (spaced_is xs c.args.count h e c.if-digits-count.true)
+    c.parse_hex.ensures.value ∙ sym (spaced_is xs c.args.count h e c.if-digits-count.true)

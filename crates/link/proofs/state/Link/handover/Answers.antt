@@ -8,13 +8,13 @@ use Rattle.link.proofs.state.Link.handover.Goals as goal
 
 pub returns : goal.returns
 returns g c =
-    let m = c.count-anew.new.self in
+    let m = c.count_anew.new.self in
     let kind = g.R.RecordKind in
-    let words = codec g.Number.Fixed.worth kind.payload kind.reads in
-    let laws = word_laws g.Number.Fixed.worth kind.payload kind.reads g.met.R.RecordKind.numbered.1 g.met.R.RecordKind.small g.met.R.RecordKind.back m.config in
+    let words = codec g.R.Number.Fixed.worth kind.payload kind.reads in
+    let laws = word_laws g.R.Number.Fixed.worth kind.payload kind.reads g.met.R.RecordKind.numbered.1 g.met.R.RecordKind.small g.met.R.RecordKind.back m.config in
     record {
-      after = c.count-anew.ensures;
+      after = c.count_anew.ensures;
       recovers = λ passed.
           recovers words (behaviour_of g.F.Channel) (behaviour_of g.B.Channel) g.F.Channel.rules g.B.Channel.rules 256 (omega arith) (state_of m) laws (λ r. refl)
-          (record { checked = passed; observer = ap (λ l. l.observer) c.count-anew.ensures; in_hand = refl });
+          (record { checked = passed; observer = ap (λ l. l.observer) c.count_anew.ensures; in_hand = refl });
     }

@@ -4,18 +4,18 @@ use Rattle.link.specs.States.{state_of}
 use Rattle.link.proofs.Calls.{hear_repeat, hear-new}
 use Rattle.link.proofs.state.Link.hear.Goals as goal
 
-pub returns-in-default : goal.returns-in-default
-returns-in-default g c = silent c.in-default.ensures
+pub returns-in_default : goal.returns-in_default
+returns-in_default g c = silent c.in_default.ensures
 
-pub returns-in-default-read-word : goal.returns-in-default-read-word
-returns-in-default-read-word g c = spoilt c.in-Ok.ensures (sym c.in-default-read-word.ensures)
+pub returns-in_default-read_word : goal.returns-in_default-read_word
+returns-in_default-read_word g c = spoilt c.in-Ok.ensures (sym c.in_default-read_word.ensures)
 
-pub returns-then-is-repeat : goal.returns-then-is-repeat
-returns-then-is-repeat g c =
+pub returns-then-is_repeat : goal.returns-then-is_repeat
+returns-then-is_repeat g c =
     hear_repeat _ _ _ _ c.in-Ok.word c.in-Some.message.0 c.in-Some.message.1 _ _ _ (state_of c.reply-reply.new.self) c.in-Ok.ensures c.in-Some.ensures c.reply-reply.ensures.put c.reply-reply.ensures.rest
-    c.if-is-repeat.ensures
+    c.if-is_repeat.ensures
 
 pub returns : goal.returns
 returns g c =
     hear-new _ _ _ _ c.in-Ok.word c.in-Some.message.0 c.in-Some.message.1 _ _ _ (state_of c.reply-reply.new.self) c.in-Ok.ensures c.in-Some.ensures c.reply-reply.ensures.put c.reply-reply.ensures.rest
-    _ c.if-is-repeat.ensures c.deliver.ensures
+    _ c.if-is_repeat.ensures c.deliver.ensures
