@@ -34,7 +34,8 @@ pub fn answers(heap: Global, text: &[u8]) -> Result<String, fmt::Error> {
 }
 
 fn add(page: &mut String, reply: Reply) -> fmt::Result {
-    writeln!(page, "{reply}")
+    writeln!(page, "{reply}")?;
+    Ok(())
 }
 
 // By the pair of channels. What is left of the text begins with the next `link` line.

@@ -8,7 +8,7 @@ use Rattle.witness.proofs.in_step.Goals as goal
 
 pub returns : goal.returns
 returns c =
-    let start = c.hand-over.ensures.after ∙ ap handover_of c.new-first-link.ensures in
-    came_by _ _ _ (state_of c.hand-over.new.link) (state_of c.run.new.link) (in_step_calls c.stop.result)
+    let start = c.hand_over.ensures.after ∙ ap handover_of c.new_first-link.ensures in
+    came_by _ _ _ (state_of c.hand_over.new.link) (state_of c.run.new.link) (in_step_calls c.stop.result)
     (subst₂ (Shows _ _ _) (sym start) (ap in_step_calls (sym c.stop.ensures)) in_step_shows)
-    c.hand-over.ensures.recovers c.run.ensures.run
+    c.hand_over.ensures.recovers c.run.ensures.run

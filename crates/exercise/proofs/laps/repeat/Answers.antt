@@ -7,5 +7,5 @@ pub loop-turn-preserved : goal.loop-turn-preserved
 loop-turn-preserved g c =
     let words = words_of g.R.RecordKind g.R.Number.Fixed in
     let shaped = model_of g.F.Shaped.shape g.B.Shaped.shape in
-    one_more words c.loop-turn.-turn (shaped c.args.link.now) (shaped c.loop-turn.link) (shaped c.exchange.new.link) c.args.«record»
+    one_more words c.loop-turn._turn (shaped c.args.link.now) (shaped c.loop-turn.link) (shaped c.exchange.new.link) c.args.«record»
     c.loop-turn.invariant c.exchange.ensures

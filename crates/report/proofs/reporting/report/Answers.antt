@@ -4,9 +4,9 @@ use Rattle.report.proofs.reporting.report.Goals as goal
 
 pub returns : goal.returns
 returns c = record {
-  answer = c.put-if-fits.ensures.answer;
-  page = c.put-if-fits.ensures.page;
-  short = c.put-if-fits.ensures.short;
+  answer = c.put_if_fits.ensures.answer;
+  page = c.put_if_fits.ensures.page;
+  short = c.put_if_fits.ensures.short;
   lines = one_more c.args.script.now;
   sound = ends-sound c.args.script.now;
   recovers = script_recovers c.args.script.now;

@@ -33,10 +33,10 @@ returns-in-Round g c =
 
 pub returns-in-RawForward : goal.returns-in-RawForward
 returns-in-RawForward g c =
-    forward-line g.R.Number.Fixed.worth g.R.RecordKind.payload g.R.RecordKind.reads g.met.F.Shaped.moves g.met.B.Shaped.moves _ _ c.in-RawForward.word c.put-forward-answer.result c.handed-over-in-RawForward.result _ c.handed-over-in-RawForward.ensures.reply c.handed-over-in-RawForward.ensures.after c.put-forward-answer.ensures
+    forward-line g.R.Number.Fixed.worth g.R.RecordKind.payload g.R.RecordKind.reads g.met.F.Shaped.moves g.met.B.Shaped.moves _ _ c.in-RawForward.word c.put_forward-answer.result c.handed_over-in-RawForward.result _ c.handed_over-in-RawForward.ensures.reply c.handed_over-in-RawForward.ensures.after c.put_forward-answer.ensures
     ∙ ap (λ (o : Order). obeyed g.R.Number.Fixed.worth g.R.RecordKind.payload g.R.RecordKind.reads o (model_of g.F.Shaped.shape g.B.Shaped.shape c.args.link.now)) (sym c.in-RawForward.is)
 
 pub returns-in-RawBack : goal.returns-in-RawBack
 returns-in-RawBack g c =
-    back-line g.R.Number.Fixed.worth g.R.RecordKind.payload g.R.RecordKind.reads g.met.F.Shaped.moves g.met.B.Shaped.moves _ _ c.in-RawBack.word c.put-back-answer.result c.handed-over-in-RawBack.result _ c.handed-over-in-RawBack.ensures.reply c.handed-over-in-RawBack.ensures.after c.put-back-answer.ensures
+    back-line g.R.Number.Fixed.worth g.R.RecordKind.payload g.R.RecordKind.reads g.met.F.Shaped.moves g.met.B.Shaped.moves _ _ c.in-RawBack.word c.put_back-answer.result c.handed_over-in-RawBack.result _ c.handed_over-in-RawBack.ensures.reply c.handed_over-in-RawBack.ensures.after c.put_back-answer.ensures
     ∙ ap (λ (o : Order). obeyed g.R.Number.Fixed.worth g.R.RecordKind.payload g.R.RecordKind.reads o (model_of g.F.Shaped.shape g.B.Shaped.shape c.args.link.now)) (sym c.in-RawBack.is)

@@ -10,8 +10,8 @@ pub returns-in-Ok : goal.returns-in-Ok
 returns-in-Ok c =
     let p = c.args.payload in
     record {
-      text = renamed (32 ∷ hex_digits 9 p) (record_text c.args.heard p) (ap (λ (a : Answer). record_text a p) (sym c.in-Ok.is)) (chain c.put-byte-after.ensures c.put-nine.ensures);
-      short = omega (arith, length_digits 9 p, c.put-byte-after.ensures.place, c.put-nine.ensures.place);
+      text = renamed (32 ∷ hex_digits 9 p) (record_text c.args.heard p) (ap (λ (a : Answer). record_text a p) (sym c.in-Ok.is)) (chain c.put_byte-after.ensures c.put_nine.ensures);
+      short = omega (arith, length_digits 9 p, c.put_byte-after.ensures.place, c.put_nine.ensures.place);
     }
 
 pub returns-in-Err : goal.returns-in-Err
