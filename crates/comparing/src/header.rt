@@ -18,11 +18,11 @@ pub struct Header<'a> {
 // The header that a line is; nothing where it has another form.
 pub fn parse_header(line: &[u8]) -> Option<Header<'_>> {
     let mut fields = Fields::new(line);
-    if fields.word()? != b"case" {
+    if fields.word()? != b"case".as_slice() {
         return None;
     }
     let name = fields.word()?;
-    if !is_name(name) || fields.word()? != b"script" {
+    if !is_name(name) || fields.word()? != b"script".as_slice() {
         return None;
     }
     let script = fields.number(u64::MAX)?;
