@@ -6,7 +6,7 @@ mod lines;
 #[cfg(test)]
 mod losses;
 #[cfg(test)]
-mod relays;
+mod relaying;
 #[cfg(test)]
 mod rings;
 #[cfg(test)]

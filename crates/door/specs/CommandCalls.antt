@@ -5,7 +5,7 @@ use Rattle.commands.specs.Commands.{command_of, command_payload, command_reads}
 use Rattle.records.specs.Kinds.{or_code}
 use Rattle.commands.specs.declared.command.Command.{Command}
 use Rattle.door.specs.Outputs.{found_as}
-use Rattle.door.specs.declared.commands.CommandParts.{CommandParts}
+use Rattle.door.specs.declared.command.CommandParts.{CommandParts}
 
 abbrev pub packed_command : CommandParts → Result ℕ Refusal
 packed_command p = found_as command_payload (or_code (command_of p.code p.argument))

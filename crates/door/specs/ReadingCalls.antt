@@ -6,7 +6,7 @@ use Rattle.records.specs.Kinds.{or_code}
 use Rattle.readings.specs.Readings.{side_bit, side_of, reading_of, reading_payload, reading_reads}
 use Rattle.readings.specs.declared.reading.Reading.{Reading}
 use Rattle.door.specs.Outputs.{found_as}
-use Rattle.door.specs.declared.readings.ReadingParts.{ReadingParts}
+use Rattle.door.specs.declared.reading.ReadingParts.{ReadingParts}
 
 -- side 0 is left and 1 is right; there is no other
 abbrev pub sided_reading : ReadingParts → Result Reading Refusal

@@ -2,8 +2,8 @@
 // finds goes out through its last parameters; a refused call leaves them as they were.
 #![tactic(auto)]
 
-pub mod commands;
-pub mod readings;
+pub mod command;
+pub mod reading;
 pub mod reports;
 pub mod rounds;
 pub mod words;
