@@ -1,5 +1,5 @@
 -- A report, one line on. Assumes nothing.
-use Rattle.std.proofs.Common.{◌≡◌, ℕ, List, [], ◌∷◌, ◌++◌, Result, sym, refl, ap, ◌∙◌, ap₂, append_assoc}
+use Rattle.std.proofs.Common.{◌≡◌, ℕ, List, ◌∷◌, ◌++◌, Result, sym, ap, ◌∙◌, ap₂, append_assoc}
 use Rattle.capture.specs.declared.message.Fault.{Fault}
 use Rattle.capture.specs.declared.message.Message.{Message}
 use Rattle.capture.specs.declared.tally.Tally.{Tally}

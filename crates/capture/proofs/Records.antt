@@ -1,5 +1,5 @@
 -- A packed word, written in sixteen digits, decodes to what it carries. Assumes nothing.
-use Rattle.std.proofs.Common.{◌≡◌, ℕ, ◌^◌, ◌<◌, ◌≤◌, false, eqb, length, None, Ok, refl, ap, ◌∙◌, ap₂, arith}
+use Rattle.std.proofs.Common.{◌≡◌, ℕ, ◌^◌, ◌<◌, false, eqb, length, None, Ok, refl, ap, ◌∙◌, ap₂, arith}
 use Rattle.std.proofs.lemmas.Bool.{and_left, cond-true, cond-false, eq-eqb}
 use Rattle.text.specs.Hex.{hex_number, hex_digits}
 use Rattle.text.proofs.Digits.{digits_read, length_digits}

@@ -1,5 +1,5 @@
 -- What a line of a capture carries. Assumes nothing.
-use Rattle.std.specs.Prelude.{◌≡◌, ℕ, ◌^◌, ◌<◌, Bool, cond, List, length, Some, None, Ok, Err, Option, Result, ◌==◌}
+use Rattle.std.specs.Prelude.{◌≡◌, ℕ, cond, List, length, Some, None, Ok, Err, Option, Result, ◌==◌}
 use Rattle.text.specs.Hex.{hex_number, hex_digits}
 use Rattle.wire.specs.declared.word.Word.{Word}
 use Rattle.wire.specs.Words.{packed, reads, acknowledges}

@@ -1,5 +1,5 @@
 -- A scan of the words in sight, position by position. Assumes nothing.
-use Rattle.std.proofs.Common.{◌≡◌, ℕ, zero, suc, ◌+◌, ◌<◌, Bool, true, false, ◌&&◌, List, [], ◌∷◌, take, Ok, Option, sym, refl, add-one, arith}
+use Rattle.std.proofs.Common.{◌≡◌, ℕ, zero, suc, ◌+◌, ◌<◌, true, false, List, [], ◌∷◌, take, Ok, Option, sym, refl, add-one, arith}
 use Rattle.std.proofs.lemmas.Bool.{and_from, and_parts, and_left, and_right}
 use Rattle.channel.specs.Meaning.{peeked}
 use Rattle.recovery.specs.State.{fits, all_fit}

@@ -1,12 +1,12 @@
 -- Words of 8 bits of label keep the laws of a codec. Assumes nothing.
-use Rattle.std.proofs.Common.{◌≡◌, ℕ, ◌%◌, ◌^◌, ◌<◌, ◌≤◌, Bool, true, false, cond, ◌&&◌, eqb, ltb, Some, None, Option, sym, refl, ap, ◌∙◌, ap₂, mod-eq_of_lt, arith}
+use Rattle.std.proofs.Common.{◌≡◌, ℕ, ◌%◌, ◌^◌, ◌<◌, ◌≤◌, Bool, true, false, cond, ◌&&◌, eqb, ltb, Some, None, Option, refl, ap, ◌∙◌, ap₂, mod-eq_of_lt, arith}
 use Rattle.std.proofs.lemmas.Bool.{and_from, and_parts, cond-true, eq-eqb, lt-ltb, ltb-true}
 use Rattle.wire.specs.declared.word.Word.{Word}
 use Rattle.wire.specs.Words.{word_of, packed, reads, acknowledges, acknowledgement}
 use Rattle.wire.proofs.Roundtrip.{packed-reads}
-use Rattle.recovery.specs.Codec.{Codec, CodecLaws}
+use Rattle.recovery.specs.Codec.{CodecLaws}
 use Rattle.codec.specs.declared.config.Config.{Config}
-use Rattle.codec.specs.Words.{under_label, record_in, read_word, ack_in, read_ack, send_word, codec}
+use Rattle.codec.specs.Words.{under_label, record_in, read_word, ack_in, read_ack, codec}
 
 some_is : {T : Type 0} (b : Bool) (o : Option T) (x : T) → cond b o None ≡ Some x → (b ≡ true) × (o ≡ Some x)
 some_is true o x e = (refl, e)

@@ -1,5 +1,5 @@
 -- The words of a link, and what a word reads as at either end. Assumes nothing.
-use Rattle.std.specs.Prelude.{ℕ, Bool, true, cond, ◌&&◌, Some, None, Option, ◌==◌, nat_le, nat_lt}
+use Rattle.std.specs.Prelude.{ℕ, true, cond, ◌&&◌, Some, None, Option, ◌==◌, nat_le, nat_lt}
 use Rattle.wire.specs.declared.word.Word.{Word}
 use Rattle.wire.specs.Words.{word_of, packed, reads, acknowledges, acknowledgement}
 use Rattle.recovery.specs.Codec.{Codec}

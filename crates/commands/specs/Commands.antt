@@ -1,5 +1,5 @@
 -- Commands: the values of the table, and their payloads. Assumes nothing.
-use Rattle.std.specs.Prelude.{◌≡◌, ℕ, ◌+◌, ◌*◌, ◌/◌, ◌%◌, ◌^◌, true, cond, Option, ◌==◌, refl}
+use Rattle.std.specs.Prelude.{ℕ, ◌+◌, ◌*◌, ◌/◌, ◌%◌, ◌^◌, cond, Option, ◌==◌, refl}
 use Rattle.commands.specs.declared.command.Action.{Action}
 use Rattle.commands.specs.declared.command.Action.TheVariants.{Stop, Run, ChooseAxle, ZeroScale, Lamp}
 use Rattle.commands.specs.declared.command.Command.{Command}

@@ -8,7 +8,7 @@ use Rattle.recovery.specs.Check.{checked}
 use Rattle.recovery.specs.Codec.{Codec}
 use Rattle.codec.specs.declared.config.Config.{Config}
 use Rattle.shapes.specs.Moves.{Moves}
-use Rattle.shapes.specs.Shapes.{Shape, means}
+use Rattle.shapes.specs.Shapes.{Shape}
 use Rattle.model.specs.Makings.{new_of}
 use Rattle.model.specs.Models.{Model}
 use Rattle.exercise.specs.Laps.{lap, laps, seen_by, exercised}

@@ -22,7 +22,7 @@ fn reads_a_line_field_by_field(rt: HostRuntime) -> Result<(), Fail> {
     let Some(word) = fields.word() else {
         return Err(Fail::new("no word"));
     };
-    assert!(rt; word == b"peek");
+    assert!(rt; word == b"peek".as_slice());
     assert_eq!(rt; fields.number(255), Some(255));
     assert_eq!(rt; fields.digits(3), Some(15));
     assert!(rt; !fields.is_done());

@@ -1,5 +1,5 @@
 -- The steps of a link, from what its calls compute. Assumes nothing.
-use Rattle.std.proofs.Common.{◌≡◌, ℕ, Bool, true, false, not, eqb, ◌≢◌, ◌⊎◌, Some, None, Ok, Err, sym, refl, ap, ◌∙◌, subst, ap₂, inl, inr, ⊎_elim, arith, eqb-true}
+use Rattle.std.proofs.Common.{◌≡◌, ℕ, Bool, true, false, not, eqb, ◌≢◌, ◌⊎◌, Some, Ok, Err, sym, refl, ap, ◌∙◌, subst, ap₂, inl, inr, ⊎_elim, arith, eqb-true}
 use borrow.Author.Tests.{eqb-false}
 use Rattle.wire.specs.Refusals.{Answer}
 use Rattle.wire.specs.declared.refusal.Refusal.{Refusal}

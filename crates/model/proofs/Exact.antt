@@ -1,5 +1,5 @@
 -- A call on a link over channels that move as their shapes answers and leaves what is computed of the link over shapes. Assumes nothing.
-use Rattle.std.proofs.Common.{◌≡◌, ℕ, Bool, true, false, eqb, Some, None, Ok, Err, Option, Result, sym, refl, ap, ◌∙◌, ap₂, inl, inr, eq-eqb, ne_eqb}
+use Rattle.std.proofs.Common.{◌≡◌, ℕ, Bool, true, false, eqb, Some, Ok, Option, Result, sym, refl, ap, ◌∙◌, ap₂, inl, inr, eq-eqb, ne_eqb}
 use Rattle.wire.specs.Refusals.{Answer}
 use Rattle.wire.specs.declared.refusal.Refusal.{Refusal}
 use Rattle.channel.specs.Meaning.{Meaning, Behaviour}
@@ -12,7 +12,7 @@ use Rattle.recovery.specs.Steps as steps
 use Rattle.recovery.specs.Steps.{Offer, Send, Hear, Settle, Ticks, Round}
 use Rattle.ends.specs.declared.sender.State.{State}
 use Rattle.ends.specs.declared.sender.State.TheVariants.{Idle, UnderWay}
-use Rattle.shapes.specs.Shapes.{Shape, PutResult, put}
+use Rattle.shapes.specs.Shapes.{Shape, put}
 use Rattle.shapes.specs.Moves.{Moves, shape_behaviour}
 use Rattle.model.specs.Models.{Model, shaped_state, Turn, Hearing, Rounding}
 use Rattle.model.specs.Calls.{offer_by, offer_of, send_by, send_of, hear_record, hear_word, hear_by, hear_of, settle_label, settle_word, settle_by, settle_of, tick_of, round_of}

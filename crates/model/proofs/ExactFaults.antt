@@ -1,7 +1,6 @@
 -- Fault calls on a link over channels that move as their shapes do what is computed of the link over shapes. Assumes nothing.
-use Rattle.std.proofs.Common.{◌≡◌, ℕ, Result, ap, ◌∙◌, ap₂}
+use Rattle.std.proofs.Common.{◌≡◌, ℕ, ap, ◌∙◌, ap₂}
 use Rattle.wire.specs.Refusals.{Answer}
-use Rattle.wire.specs.declared.refusal.Refusal.{Refusal}
 use Rattle.channel.specs.Meaning.{Behaviour}
 use Rattle.recovery.specs.State.{LinkState}
 use Rattle.link.specs.Faults.{with_forward, with_back, RawForward, RawBack, without_word, DiscardForward, DiscardBack}

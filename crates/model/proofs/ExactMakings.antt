@@ -6,7 +6,7 @@ use Rattle.recovery.specs.State.{LinkState}
 use Rattle.codec.specs.declared.config.Config.{Config, range-type}
 use Rattle.link.specs.Makings.{Made, observed_anew}
 use Rattle.shapes.specs.Shapes.{Shape}
-use Rattle.model.specs.Models.{Model, shaped_state}
+use Rattle.model.specs.Models.{shaped_state}
 use Rattle.model.specs.Makings.{config_of, new_of}
 use Rattle.model.specs.Faults.{handover_of}
 

@@ -13,7 +13,7 @@ use Rattle.shapes.specs.Shapes.{Shape}
 use Rattle.shapes.specs.Moves.{Moves, shape_behaviour}
 use Rattle.model.specs.declared.calls.Call.{Call}
 use Rattle.model.specs.declared.calls.Call.TheVariants as calls
-use Rattle.model.specs.Models.{Model, shaped_state, Turn, Hearing}
+use Rattle.model.specs.Models.{Model, shaped_state}
 use Rattle.model.specs.Calls.{hear_of}
 use Rattle.model.specs.Sequences.{after, after_all, offer_events, hear_events, settle_events, events, events_all}
 use Rattle.model.proofs.Exact.{clean_is, offer_is, send_is, hear_is, settle_is}

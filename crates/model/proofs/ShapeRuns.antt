@@ -1,5 +1,5 @@
 -- Calls on a link over shapes, as they are computed, are steps and runs. Assumes nothing.
-use Rattle.std.proofs.Common.{◌≡◌, ℕ, Bool, true, false, eqb, List, Some, None, Ok, Err, Option, Result, sym, refl, ap, ◌∙◌, subst, inl, inr, append-nil, eqb-true}
+use Rattle.std.proofs.Common.{◌≡◌, ℕ, Bool, true, false, eqb, Some, None, Ok, Err, Option, Result, refl, ap, ◌∙◌, subst, inl, inr, append-nil, eqb-true}
 use borrow.Author.Tests.{eqb-false}
 use Rattle.wire.specs.declared.refusal.Refusal.{Refusal}
 use Rattle.recovery.specs.Codec.{Codec}
@@ -14,7 +14,7 @@ use Rattle.shapes.specs.Shapes.{Shape, put, take}
 use Rattle.shapes.specs.Moves.{shape_behaviour}
 use Rattle.model.specs.declared.calls.Call.{Call}
 use Rattle.model.specs.declared.calls.Call.TheVariants as calls
-use Rattle.model.specs.Models.{Model, Turn, Hearing, Rounding}
+use Rattle.model.specs.Models.{Model, Turn, Hearing}
 use Rattle.model.specs.Calls.{offer_by, offer_of, send_by, send_of, hear_record, hear_word, hear_by, hear_of, settle_label, settle_word, settle_by, settle_of, tick_of, round_of}
 use Rattle.model.specs.Sequences.{after, events}
 

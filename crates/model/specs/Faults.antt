@@ -1,6 +1,5 @@
 -- Fault calls and the handover on a link over shapes, computed. Assumes nothing.
-use Rattle.std.specs.Prelude.{ℕ, Ok, Result}
-use Rattle.wire.specs.declared.refusal.Refusal.{Refusal}
+use Rattle.std.specs.Prelude.{ℕ, Ok}
 use Rattle.ends.specs.declared.sender.State.{State}
 use Rattle.codec.specs.declared.config.Config.{Config}
 use Rattle.link.specs.Makings.{observed_anew}

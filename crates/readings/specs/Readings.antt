@@ -1,5 +1,5 @@
 -- Readings and their payloads. Assumes nothing.
-use Rattle.std.specs.Prelude.{◌≡◌, ℕ, zero, suc, ◌+◌, ◌*◌, ◌/◌, ◌%◌, ◌^◌, true, cond, None, Option, ◌==◌, refl}
+use Rattle.std.specs.Prelude.{ℕ, zero, suc, ◌+◌, ◌*◌, ◌/◌, ◌%◌, ◌^◌, cond, None, Option, ◌==◌, refl}
 use Rattle.readings.specs.declared.reading.Reading.{Reading}
 use Rattle.readings.specs.declared.reading.Side.{Side}
 use Rattle.readings.specs.declared.reading.Side.TheVariants.{Left, Right}

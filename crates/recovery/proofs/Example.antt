@@ -1,14 +1,14 @@
 -- The example's codec keeps its laws, its channel keeps the rules, and its run is one. Assumes nothing.
-use Rattle.std.proofs.Common.{◌≡◌, ℕ, ◌+◌, ◌*◌, ◌/◌, ◌%◌, ◌<◌, ◌⊎◌, List, [], ◌∷◌, length, Some, None, Ok, Err, Option, Result, sym, refl, ap, ap₂, inl, inr, arith}
+use Rattle.std.proofs.Common.{◌≡◌, ℕ, ◌%◌, [], ◌∷◌, length, Some, None, Ok, Err, Option, Result, sym, refl, ap, ap₂, inl, arith}
 use Rattle.wire.specs.Refusals.{Answer}
 use Rattle.wire.specs.declared.refusal.Refusal.{Refusal}
-use Rattle.channel.specs.Meaning.{Meaning, Standing}
+use Rattle.channel.specs.Meaning.{Standing}
 use Rattle.channel.specs.Rules.{SameWire, Put, Take, Tick}
 use Rattle.channel.specs.Sublists.{sublist_all}
 use Rattle.recovery.specs.Codec.{CodecLaws}
 use Rattle.recovery.specs.Steps as spec
 use Rattle.recovery.specs.Runs as runs
-use Rattle.recovery.specs.Example.{numbers, held, puts, takes, place, start, Happens}
+use Rattle.recovery.specs.Example.{numbers, held, puts, takes, place, Happens}
 use Rattle.recovery.proofs.Labels.{some_same}
 
 laws : CodecLaws numbers

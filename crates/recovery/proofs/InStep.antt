@@ -1,6 +1,6 @@
 -- An exchange whose label stood in neither channel when it began ends clean; from then on the ends stay in step: each record is
 -- delivered once, in order, and each exchange ends clean. Assumes nothing.
-use Rattle.std.proofs.Common.{◌≡◌, ℕ, ◌+◌, ◌%◌, ◌<◌, ◌≤◌, Bool, true, false, ◌≢◌, List, [], ◌∷◌, Some, sym, refl, ap, ◌∙◌, inl, inr, arith}
+use Rattle.std.proofs.Common.{◌≡◌, ℕ, ◌+◌, ◌%◌, ◌<◌, ◌≤◌, Bool, true, false, ◌≢◌, List, [], ◌∷◌, Some, sym, refl, ap, ◌∙◌, inl, inr}
 use borrow.Author.Tests.{both_ways}
 use Rattle.std.specs.List.{AllByRecursion as All}
 use Rattle.std.proofs.ByRecursion.{All-weaker}

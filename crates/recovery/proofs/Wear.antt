@@ -1,17 +1,16 @@
 -- A channel keeps its capacity and its delay, and its losses left only fall. So a link that has passed its check passes it ever after.
 -- Assumes nothing.
-use Rattle.std.proofs.Common.{◌≡◌, ℕ, ◌+◌, ◌≤◌, Bool, true, false, ◌&&◌, leb, List, Ok, Err, Result, sym, refl, ap, ◌∙◌, arith, le-leb, leb-true}
+use Rattle.std.proofs.Common.{◌≡◌, ℕ, ◌+◌, ◌≤◌, Bool, true, false, ◌&&◌, leb, List, Ok, Err, Result, refl, ap, ◌∙◌, arith, le-leb, leb-true}
 use Rattle.std.proofs.lemmas.Bool.{and_from, and_parts}
-use Rattle.wire.specs.Refusals.{Answer}
 use Rattle.wire.specs.declared.refusal.Refusal.{Refusal}
 use Rattle.channel.specs.Meaning.{Meaning, Behaviour, answered}
-use Rattle.channel.specs.Rules.{SameWire, Put, Take, Tick}
+use Rattle.channel.specs.Rules.{SameWire, Take}
 use Rattle.channel.proofs.Kept.{RulesOn}
 use Rattle.recovery.specs.Codec.{Codec}
 use Rattle.recovery.specs.State.{LinkState, codec_of}
 use Rattle.recovery.specs.Check.{in_span, places, verdict, checked, checked_link}
 use Rattle.recovery.specs.Runs.{Event, Run}
-use Rattle.recovery.proofs.Channels.{PutCase, put_case, put-losses, tick-losses, refused, kept, lost}
+use Rattle.recovery.proofs.Channels.{PutCase, put_case, tick-losses, refused, kept, lost}
 use Rattle.recovery.proofs.Simulation.{run-keeps, run-known}
 
 -- The same channel later.

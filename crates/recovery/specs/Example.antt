@@ -3,7 +3,7 @@ use Rattle.std.specs.Prelude.{◌≡◌, ℕ, ◌+◌, ◌*◌, ◌/◌, ◌%◌
 use Rattle.wire.specs.Refusals.{Answer}
 use Rattle.wire.specs.declared.refusal.Refusal.{Refusal}
 use Rattle.wire.specs.declared.refusal.Refusal.TheVariants.{Full, Silent}
-use Rattle.channel.specs.Meaning.{Meaning, Behaviour}
+use Rattle.channel.specs.Meaning.{Behaviour}
 use Rattle.channel.specs.Rules.{ChannelRules}
 use Rattle.recovery.specs.Codec.{Codec, CodecLaws, AllowsAll}
 use Rattle.recovery.specs.State.{LinkState}

@@ -1,5 +1,5 @@
 -- The state of a link, and when it is clean. Assumes nothing.
-use Rattle.std.specs.Prelude.{ℕ, ◌%◌, Bool, true, false, ◌&&◌, List, [], ◌∷◌, length, take, Some, None, Option, ◌==◌}
+use Rattle.std.specs.Prelude.{ℕ, ◌%◌, Bool, true, ◌&&◌, List, [], ◌∷◌, length, take, Some, None, Option, ◌==◌}
 use Rattle.channel.specs.Meaning.{Meaning, Behaviour, answered}
 use Rattle.ends.specs.Senders.{is_idle}
 use Rattle.recovery.specs.Codec.{Codec, word_label}

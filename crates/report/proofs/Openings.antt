@@ -1,5 +1,5 @@
 -- A link is made, handed over, and given the lines of a script. Assumes nothing.
-use Rattle.std.proofs.Common.{◌≡◌, ℕ, List, ◌++◌, Ok, Err, Option, sym, refl, ap, ◌∙◌, ap₂}
+use Rattle.std.proofs.Common.{◌≡◌, ℕ, List, ◌++◌, Ok, Err, Option, ap, ◌∙◌, ap₂}
 use Rattle.wire.specs.Refusals.{Answer}
 use Rattle.wire.specs.declared.refusal.Refusal.{Refusal}
 use Rattle.channel.specs.Meaning.{Meaning, Behaviour}

@@ -1,5 +1,5 @@
 -- The lines of a script since the link was handed over last are a run, and the link recovers in it. Assumes nothing.
-use Rattle.std.proofs.Common.{◌≡◌, ℕ, ◌+◌, ◌^◌, ◌<◌, ◌≤◌, Bool, true, false, ◌&&◌, leb, List, [], ◌∷◌, ◌++◌, length, is_ok, Some, None, Ok, Err, Option, Result, sym, refl, ap, ◌∙◌, subst, arith, lit<}
+use Rattle.std.proofs.Common.{◌≡◌, ℕ, ◌+◌, ◌^◌, ◌<◌, true, ◌&&◌, leb, List, [], ◌∷◌, is_ok, Some, None, Ok, Err, Option, Result, sym, refl, ap, ◌∙◌, subst, arith, lit<}
 use Rattle.std.proofs.lemmas.Bool.{and_from, cond-true, le-leb}
 use Rattle.text.specs.Lines.{lines_of}
 use Rattle.wire.specs.Refusals.{Answer}
@@ -8,7 +8,7 @@ use Rattle.channel.specs.Meaning.{Meaning}
 use Rattle.commands.specs.CommandLaws as commandLaws
 use Rattle.readings.specs.ReadingLaws as readingLaws
 use Rattle.recovery.specs.Check.{checked, checked_link}
-use Rattle.recovery.specs.Codec.{Codec, CodecLaws}
+use Rattle.recovery.specs.Codec.{Codec}
 use Rattle.recovery.specs.Runs as runs
 use Rattle.recovery.specs.Runs.{Event, Run}
 use Rattle.recovery.specs.Tallies.{completed_in, reported}
@@ -46,7 +46,7 @@ use Rattle.script.specs.declared.start.Setup.TheVariants.{First, Second}
 use Rattle.script.specs.declared.start.Start.{Start}
 use Rattle.report.specs.Laws.{after_lines, makes_link, starts_well, Recovering, BenchRecovering, KindRecovering, StartRecovering, ScriptRecovering, Recovers}
 use Rattle.report.specs.Lines.{answered, obeyed, offered}
-use Rattle.report.specs.Starts.{BenchKind, commands_kind, readings_kind, forward_of, back_of, check_of}
+use Rattle.report.specs.Starts.{BenchKind, commands_kind, readings_kind, forward_of, back_of}
 use Rattle.report.specs.Stretches.{Stretch, begun, faulted, going, offering, ordered, continued, stretch}
 
 -- What a kind has to show: its number and its payloads fit a word, and what is packed reads back.

@@ -1,5 +1,5 @@
 -- A script, one line on. Assumes nothing.
-use Rattle.std.proofs.Common.{◌≡◌, ℕ, suc, ◌+◌, ◌*◌, ◌<◌, ◌≤◌, Bool, true, false, cond, eqb, List, [], ◌∷◌, ◌++◌, length, Option, sym, refl, ap, ◌∙◌, ap₂, arith, length-append}
+use Rattle.std.proofs.Common.{◌≡◌, ℕ, suc, ◌+◌, ◌*◌, ◌≤◌, Bool, true, false, cond, eqb, List, [], ◌∷◌, ◌++◌, length, Option, sym, refl, ap, ◌∙◌, ap₂, arith, length-append}
 use Rattle.ends.specs.declared.observer.Observer.{Observer}
 use Rattle.text.specs.Lines.{before, lines_of}
 use Rattle.codec.specs.declared.config.Config.{Config}
@@ -8,7 +8,7 @@ use Rattle.script.specs.Lines.{order_of}
 use Rattle.report.specs.declared.reply.Reply.{Reply}
 use Rattle.report.specs.declared.reply.Reply.TheVariants.{One, Hear, Round}
 use Rattle.report.specs.Lines.{Answered, outcome, answered, lines_text}
-use Rattle.report.specs.Pages.{written, Room, Wrote}
+use Rattle.report.specs.Pages.{written, Wrote}
 use Rattle.report.specs.Replies.{reply_text, reply_room, sound_text}
 use Rattle.report.specs.Rooms.{bytes_in}
 use Rattle.report.proofs.Writing.{then, renamed}

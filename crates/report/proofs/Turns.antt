@@ -1,7 +1,6 @@
 -- A call on a link over channels that have shapes, as the answer to a line. Assumes nothing.
-use Rattle.std.proofs.Common.{◌≡◌, ℕ, Some, None, Ok, Err, Option, Result, sym, refl, ap, ◌∙◌, ap₂, arith}
+use Rattle.std.proofs.Common.{◌≡◌, ℕ, Some, None, Ok, Err, Option, sym, refl, ap, ◌∙◌, ap₂, arith}
 use Rattle.wire.specs.Refusals.{Answer}
-use Rattle.wire.specs.declared.refusal.Refusal.{Refusal}
 use Rattle.channel.specs.Meaning.{Behaviour}
 use Rattle.records.specs.Kinds.{or_code}
 use Rattle.recovery.specs.State.{LinkState}
@@ -13,11 +12,10 @@ use Rattle.codec.specs.Words.{codec}
 use Rattle.shapes.specs.Shapes.{Shape}
 use Rattle.shapes.specs.Moves.{Moves}
 use Rattle.model.specs.Models.{Model, shaped_state}
-use Rattle.model.specs.Calls.{offer_of, send_of, hear_of, settle_of, tick_of, round_of}
+use Rattle.model.specs.Calls.{send_of, hear_of, settle_of, tick_of, round_of}
 use Rattle.model.specs.Faults.{raw_forward_of, raw_back_of}
 use Rattle.model.proofs.Exact.{offer_is, send_is, hear_is, settle_is, tick_is, round_is}
 use Rattle.model.proofs.ExactFaults.{raw_forward_is, raw_back_is}
-use Rattle.script.specs.declared.order.Order.{Order}
 use Rattle.report.specs.declared.reply.Reply.{Reply}
 use Rattle.report.specs.declared.reply.Reply.TheVariants as reply
 use Rattle.report.specs.Anew.{anew_after}

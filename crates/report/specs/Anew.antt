@@ -1,5 +1,5 @@
 -- A link is handed over after every fault that was accepted. Assumes nothing.
-use Rattle.std.specs.Prelude.{ℕ, Ok, Err}
+use Rattle.std.specs.Prelude.{Ok, Err}
 use Rattle.wire.specs.Refusals.{Answer}
 use Rattle.recovery.specs.State.{LinkState}
 use Rattle.codec.specs.declared.config.Config.{Config}

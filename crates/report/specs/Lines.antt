@@ -5,7 +5,6 @@ use Rattle.wire.specs.declared.refusal.Refusal.TheVariants.{Code}
 use Rattle.recovery.specs.Codec.{Codec}
 use Rattle.codec.specs.declared.config.Config.{Config}
 use Rattle.codec.specs.Words.{codec}
-use Rattle.shapes.specs.Shapes.{Shape}
 use Rattle.model.specs.Models.{Model, Turn, Hearing, Rounding}
 use Rattle.model.specs.Calls.{offer_of, send_of, hear_of, settle_of, tick_of, round_of}
 use Rattle.model.specs.Faults.{sender_label_of, receiver_label_of, raw_forward_of, raw_back_of}

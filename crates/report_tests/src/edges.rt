@@ -6,16 +6,16 @@ use wire::Refusal;
 
 #[test]
 fn nothing_and_next_to_nothing(rt: HostRuntime) -> Result<(), Fail> {
-    reports(rt, b"", b"")?;
-    reports(rt, b"\n", b"? 12\n")?;
-    reports(rt, b"\0", b"? 12\n")
+    reports(&rt, b"", b"")?;
+    reports(&rt, b"\n", b"? 12\n")?;
+    reports(&rt, b"\0", b"? 12\n")
 }
 
 #[test]
 fn a_last_line_without_its_end(rt: HostRuntime) -> Result<(), Fail> {
-    reports(rt, b"P 1 C 04\nt", b"P 0\nt 0\nsound 0 of 0\n")?;
-    reports(rt, b"P 1 C 04\nt\n", b"P 0\nt 0\nsound 0 of 0\n")?;
-    reports(rt, b"P 1 C 04\nt\n\n", b"P 0\nt 0\n? 12\nsound 0 of 0\n")
+    reports(&rt, b"P 1 C 04\nt", b"P 0\nt 0\nsound 0 of 0\n")?;
+    reports(&rt, b"P 1 C 04\nt\n", b"P 0\nt 0\nsound 0 of 0\n")?;
+    reports(&rt, b"P 1 C 04\nt\n\n", b"P 0\nt 0\n? 12\nsound 0 of 0\n")
 }
 
 #[test]

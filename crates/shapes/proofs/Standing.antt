@@ -1,13 +1,12 @@
 -- Shapes keep the channel rules as long as they stand: no more words than there is room for, a due number for each word of a line, and
 -- patterns of 64 bits. Assumes nothing.
-use Rattle.std.proofs.Common.{◌≡◌, ℕ, suc, ◌+◌, ◌-◌, ◌^◌, ◌<◌, ◌≤◌, Bool, true, false, ◌&&◌, eqb, ltb, ◌⊎◌, List, [], ◌∷◌, ◌++◌, map, length, Ok, Err, Result, sym, refl, ap, ◌∙◌, subst, subst₂, inl, inr, arith, length-append, ltb-true}
+use Rattle.std.proofs.Common.{◌≡◌, ℕ, suc, ◌-◌, ◌^◌, ◌<◌, ◌≤◌, Bool, true, false, ltb, ◌⊎◌, List, [], ◌∷◌, ◌++◌, length, Ok, Err, sym, refl, ap, subst, subst₂, inl, inr, arith, length-append, ltb-true}
 use borrow.Author.Tests.{both_ways}
 use Rattle.std.specs.List.{AllByRecursion as All}
 use Rattle.std.proofs.ByRecursion.{All-push}
-use Rattle.std.proofs.lemmas.Bool.{and_parts}
 use Rattle.wire.specs.Refusals.{Answer}
 use Rattle.wire.specs.declared.refusal.Refusal.{Refusal}
-use Rattle.channel.specs.Meaning.{Meaning, Standing}
+use Rattle.channel.specs.Meaning.{Standing}
 use Rattle.channel.specs.Rules.{Put, Take, Tick}
 use Rattle.channel.proofs.Kept.{RulesOn}
 use Rattle.queues.specs.Buffers.{first, rest}

@@ -1,13 +1,13 @@
 -- Rings and delay lines move as their shapes.
 use Rattle.std.specs.Prelude.{◌≡◌, ℕ, Bool, true, false, List, [], ◌∷◌, ◌++◌, Result, refl}
-use Rattle.std.proofs.Common.{ap₂, ◌∙◌}
+use Rattle.std.proofs.Common.{ap₂}
 use Rattle.wire.specs.Refusals.{Answer}
 use Rattle.wire.specs.declared.refusal.Refusal.{Refusal}
 use Rattle.queues.specs.declared.line.DelayLine.{DelayLine}
 use Rattle.queues.specs.Buffers.{first, rest}
 use Rattle.queues.specs.Rings.{RingPut, RingTake, ring_behaviour}
 use Rattle.queues.specs.Lines.{line_words, line_dues, LinePut, LineTake, SameLine, line_behaviour}
-use Rattle.shapes.specs.Shapes.{Shape, ring, line, accepted, given}
+use Rattle.shapes.specs.Shapes.{ring, line, accepted, given}
 use Rattle.shapes.specs.Moves.{Moves}
 use Rattle.shapes.specs.Stacks.{ring_shape, line_shape}
 

@@ -1,9 +1,9 @@
 -- Reading digits, one after another. Assumes nothing.
-use Rattle.std.proofs.Common.{◌≡◌, ℕ, zero, suc, ◌+◌, ◌-◌, ◌*◌, ◌/◌, ◌%◌, ◌^◌, ◌<◌, ◌≤◌, ◌&&◌, ltb, leb, List, [], ◌∷◌, ◌++◌, length, get_or, drop, Some, None, Option, sym, refl, ap, ◌∙◌, inl, inr, pow-suc, add-one, arith, length-append}
+use Rattle.std.proofs.Common.{◌≡◌, ℕ, zero, suc, ◌+◌, ◌-◌, ◌*◌, ◌/◌, ◌%◌, ◌^◌, ◌<◌, ◌≤◌, ◌&&◌, ltb, leb, List, [], ◌∷◌, ◌++◌, length, get_or, drop, Some, None, Option, refl, ap, ◌∙◌, inl, inr, pow-suc, add-one, arith, length-append}
 use native.Mathlib.Nat.{pow-le-pow_right}
 use Rattle.std.proofs.lemmas.List.{at_drop_more}
 use Rattle.std.proofs.lemmas.Bool.{cond-true, cond-false, cases_lt, and_from, and_right, le-leb, lt-leb, lt-ltb, le-ltb}
-use Rattle.text.specs.Hex.{digit_value, next, hex_from, hex_number, hex_digit, hex_digits, DigitsRead}
+use Rattle.text.specs.Hex.{digit_value, next, hex_from, hex_digit, hex_digits, DigitsRead}
 
 pub digit_more : (n : ℕ) (xs : List ℕ) (i : ℕ) (o : Option ℕ) → i < length xs → digit_value (get_or xs i 0) ≡ o → hex_from n (drop i xs) ≡ next o (λ d. hex_from (n * 16 + d) (drop (i + 1) xs))
 digit_more n xs i o h e = at_drop_more (hex_from n) xs i 0 h ∙ ap (λ o. next o (λ d. hex_from (n * 16 + d) (drop (i + 1) xs))) e

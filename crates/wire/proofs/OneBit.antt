@@ -1,10 +1,10 @@
 -- A single changed bit is seen by any odd modulus above 1. Assumes nothing.
-use Rattle.std.proofs.Common.{◌≡◌, ℕ, zero, suc, ◌+◌, ◌-◌, ◌*◌, ◌/◌, ◌%◌, ◌^◌, ◌<◌, ◌≤◌, true, ◌⊎◌, sym, refl, ap, ◌∙◌, inl, inr, mod-lt, mod-eq_of_lt, mul_assoc, mul_comm, add-mul, mul-le-mul_left, one-mul, pow-suc, mul-zero, mul-one, mul-add, arith, pow_pos, pow-add, eqb-true}
+use Rattle.std.proofs.Common.{◌≡◌, ℕ, zero, suc, ◌+◌, ◌-◌, ◌*◌, ◌/◌, ◌%◌, ◌^◌, ◌<◌, ◌≤◌, ◌⊎◌, sym, ap, ◌∙◌, inl, inr, mod-lt, mod-eq_of_lt, mul_assoc, mul_comm, add-mul, mul-le-mul_left, one-mul, pow-suc, mul-zero, mul-one, mul-add, arith, pow_pos, pow-add, eqb-true}
 use native.Mathlib.Nat.{div-add-mod, div-eq_of_lt}
 use lib.Bits.{bit_and, bit_xor, and_block, and_mask, and_zero_r, xor_add_and, xor_shr, xor_mod, xor_zero_r}
-use Rattle.std.proofs.lemmas.Nat.{shl-shr, pow_below, div-mul-add, mod-mul-add, shr_split}
+use Rattle.std.proofs.lemmas.Nat.{pow_below, div-mul-add, mod-mul-add, shr_split}
 use Rattle.std.proofs.lemmas.Bool.{cases_lt}
-use Rattle.wire.specs.Formats.{Format, whole, check, OneBit}
+use Rattle.wire.specs.Formats.{Format, check, OneBit}
 
 -- an odd number above 1 divides no power of two
 no_multiple : (h : ℕ) → 0 < h → (j q : ℕ) → (2 * h + 1) * q ≡ 2 ^ j → ⊥

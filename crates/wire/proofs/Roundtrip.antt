@@ -1,5 +1,5 @@
 -- What is packed reads back, and what reads has one packing. Assumes nothing.
-use Rattle.std.proofs.Common.{◌≡◌, ℕ, ◌+◌, ◌-◌, ◌*◌, ◌/◌, ◌%◌, ◌^◌, ◌<◌, ◌≤◌, true, Some, sym, ap, ◌∙◌, ap₂, mod-lt, mod-eq_of_lt, arith, shr-shr, eq-eqb, eqb-true}
+use Rattle.std.proofs.Common.{◌≡◌, ℕ, ◌+◌, ◌*◌, ◌/◌, ◌%◌, ◌^◌, ◌<◌, true, Some, sym, ap, ◌∙◌, ap₂, mod-eq_of_lt, arith, shr-shr, eq-eqb, eqb-true}
 use mathlib.Core.HLevel.{is_prop→PathP, ×₃_prop}
 use native.Mathlib.Bridge.{le_prop}
 use lib.Pow.{split}

@@ -1,8 +1,8 @@
 -- Shifts and masks of 64 bits as arithmetic. Assumes nothing.
-use Rattle.std.proofs.Common.{◌≡◌, ℕ, ◌+◌, ◌-◌, ◌*◌, ◌/◌, ◌%◌, ◌^◌, ◌<◌, ◌≤◌, sym, ap, ◌∙◌, ap₂, le_trans, mod-lt, mod-eq_of_lt, mul_assoc, arith, pow_pos, pow_mono, pow-add}
+use Rattle.std.proofs.Common.{◌≡◌, ℕ, ◌+◌, ◌-◌, ◌*◌, ◌%◌, ◌^◌, ◌<◌, ◌≤◌, sym, ap, ◌∙◌, ap₂, le_trans, mod-lt, mod-eq_of_lt, mul_assoc, arith, pow_pos, pow_mono, pow-add}
 use native.Mathlib.Nat.{mul-add-mod_self_right}
 use lib.Bits.{bit_and, bit_or, and_mask, or_shifted}
-use lib.Pow.{mod-pow-add, shl-shr, high, low}
+use lib.Pow.{mod-pow-add, high, low}
 use Rattle.std.proofs.lemmas.Nat.{one_shl}
 
 pub all-bits : (x bits : ℕ) → x < 2 ^ 64 → 64 ≤ bits → x ≡ x % 2 ^ bits

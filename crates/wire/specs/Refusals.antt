@@ -1,5 +1,5 @@
 -- The refusal table: the number and the name of each refusal. Assumes nothing.
-use Rattle.std.specs.Prelude.{ℕ, List, Some, None, Ok, Err, codes, Option, Result}
+use Rattle.std.specs.Prelude.{ℕ, List, Ok, Err, codes, Result}
 use Rattle.wire.specs.declared.refusal.Refusal.{Refusal}
 use Rattle.wire.specs.declared.refusal.Refusal.TheVariants.{Size, Span, Labels, Busy, Idle, Full, Silent, Spoilt, Repeat, Stale, Code, Script, Place, Page}
 

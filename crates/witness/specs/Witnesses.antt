@@ -1,5 +1,5 @@
 -- What is witnessed of links over two rings that carry commands. Assumes nothing.
-use Rattle.std.specs.Prelude.{◌≡◌, ℕ, Bool, List, refl}
+use Rattle.std.specs.Prelude.{◌≡◌, ℕ, Bool, List}
 use Rattle.commands.specs.declared.command.Command.{Command}
 use Rattle.commands.specs.declared.command.kind.Commands.{Commands}
 use Rattle.commands.specs.Commands.{command_payload, command_reads}

@@ -1,4 +1,4 @@
-use Rattle.std.proofs.Common.{◌≡◌, ◌<◌, length, sym, ◌∙◌, arith}
+use Rattle.std.proofs.Common.{◌<◌, length, sym, ◌∙◌, arith}
 use Rattle.fields.proofs.Dividing.{field_is, field_whole, none_after, some_after}
 use Rattle.fields.proofs.cursor.split_field.Goals as goal
 

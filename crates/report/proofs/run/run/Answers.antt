@@ -1,10 +1,9 @@
-use Rattle.std.proofs.Common.{◌≡◌, ◌+◌, ◌*◌, ◌≤◌, length, Result, ap, ◌∙◌, arith}
+use Rattle.std.proofs.Common.{Result, ap, ◌∙◌, arith}
 use Rattle.wire.specs.declared.refusal.Refusal.{Refusal}
 use Rattle.script.specs.declared.order.Order.{Order}
 use Rattle.text.specs.Lines.{lines_of}
 use Rattle.model.specs.Models.{model_of}
-use Rattle.report.specs.Lines.{outcome, answered}
-use Rattle.report.specs.Replies.{reply_room}
+use Rattle.report.specs.Lines.{answered}
 use Rattle.report.specs.Rooms.{bytes_in}
 use Rattle.report.proofs.Runs.{reply-fits, line-more, last_line}
 use Rattle.report.proofs.run.run.Goals as goal

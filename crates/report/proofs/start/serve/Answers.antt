@@ -1,5 +1,4 @@
 use Rattle.std.proofs.Common.{arith}
-use Rattle.link.specs.States.{state_of}
 use Rattle.text.specs.Lines.{lines_of}
 use Rattle.report.proofs.Openings.{refused, opened}
 use Rattle.report.proofs.Runs.{lines_bytes}

@@ -1,5 +1,5 @@
 -- What a call did, and which order asked for it.
-use Rattle.std.proofs.Common.{◌≡◌, sym, ap, ◌∙◌}
+use Rattle.std.proofs.Common.{sym, ap, ◌∙◌}
 use Rattle.script.specs.declared.order.Order.{Order}
 use Rattle.model.specs.Models.{model_of}
 use Rattle.report.specs.Lines.{obeyed}

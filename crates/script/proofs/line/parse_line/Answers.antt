@@ -1,4 +1,4 @@
-use Rattle.std.proofs.Common.{◌≡◌, ◌<◌, length, get_or, sym, refl, ◌∙◌, arith, ltb-false}
+use Rattle.std.proofs.Common.{◌<◌, length, get_or, sym, refl, ◌∙◌, arith, ltb-false}
 use Rattle.script.specs.Lines.{order_of}
 use Rattle.script.proofs.Numbers.{by_first}
 use Rattle.script.proofs.line.parse_line.Goals as goal

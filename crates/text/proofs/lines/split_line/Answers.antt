@@ -1,7 +1,7 @@
 use Rattle.std.proofs.Common.{◌≡◌, ◌<◌, [], length, sym, ap, ◌∙◌, arith, eqb-true}
 use borrow.Author.Tests.{eqb-false}
 use Rattle.std.proofs.lemmas.List.{nil_from_length}
-use Rattle.text.specs.Lines.{line_length, lines_of}
+use Rattle.text.specs.Lines.{lines_of}
 use Rattle.text.proofs.Splits.{line_is, rest_is, line-whole, rest-none, splits}
 use Rattle.text.proofs.lines.split_line.Goals as goal
 

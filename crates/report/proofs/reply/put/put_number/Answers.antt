@@ -1,4 +1,4 @@
-use Rattle.std.proofs.Common.{ℕ, [], ◌∷◌, ◌++◌, decimal, ap, arith}
+use Rattle.std.proofs.Common.{ℕ, ◌∷◌, decimal, ap, arith}
 use Rattle.report.specs.Replies.{number_text}
 use Rattle.report.proofs.Writing.{chain, renamed, two_long}
 use Rattle.report.proofs.reply.put.put_number.Goals as goal

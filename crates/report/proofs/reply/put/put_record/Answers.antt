@@ -1,4 +1,4 @@
-use Rattle.std.proofs.Common.{◌≡◌, [], ◌∷◌, Ok, Err, sym, ap, arith}
+use Rattle.std.proofs.Common.{[], ◌∷◌, sym, ap, arith}
 use Rattle.wire.specs.Refusals.{Answer}
 use Rattle.text.specs.Hex.{hex_digits}
 use Rattle.text.proofs.Digits.{length_digits}
