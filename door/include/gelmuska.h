@@ -6,7 +6,7 @@
  * No pointer may be null, not even beside a length of 0, and no two of a call's parameters may overlap, where one of them
  * is written. The functions keep nothing, allocate nothing, and may be called from several threads.
  *
- * Link with target/staticlib/libdoor.a, which `rt staticlib door` makes.
+ * Link with target/staticlib/libdoor.a, which `tools/build door` makes.
  */
 #ifndef GELMUSKA_H
 #define GELMUSKA_H

@@ -1,4 +1,4 @@
-// Links the static library that `rt staticlib door` makes. GELMUSKA_LIB may name another folder that has it.
+// Links the static library that `tools/build door` makes. GELMUSKA_LIB may name another folder that has it.
 use std::env;
 use std::path::PathBuf;
 

@@ -27,10 +27,10 @@ fn splits_at_line_ends(rt: HostRuntime) -> Result<(), Fail> {
     let Some((line, rest)) = split_line(b"\nab") else {
         return Err(Fail::new("no line"));
     };
-    assert!(rt; line.is_empty() && rest == b"ab".as_slice());
+    assert!(rt; line == b"".as_slice() && rest == b"ab".as_slice());
     let Some((line, rest)) = split_line(rest) else {
         return Err(Fail::new("no last line"));
     };
-    assert!(rt; line == b"ab".as_slice() && rest.is_empty());
+    assert!(rt; line == b"ab".as_slice() && rest == b"".as_slice());
     Ok(())
 }
