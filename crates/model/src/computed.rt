@@ -15,7 +15,7 @@ use shapes::Shaped;
 use wire::Refusal;
 
 // Offers a record.
-pub(crate) fn offer<F: Shaped, B: Shaped, R: RecordKind>(
+pub fn offer<F: Shaped, B: Shaped, R: RecordKind>(
     link: &mut Link<F, B, R>,
     r: R::Record,
 ) -> Result<(), Refusal>
@@ -27,9 +27,7 @@ pub(crate) fn offer<F: Shaped, B: Shaped, R: RecordKind>(
 }
 
 // Sends the record in hand.
-pub(crate) fn send<F: Shaped, B: Shaped, R: RecordKind>(
-    link: &mut Link<F, B, R>,
-) -> Result<(), Refusal>
+pub fn send<F: Shaped, B: Shaped, R: RecordKind>(link: &mut Link<F, B, R>) -> Result<(), Refusal>
     ensures answer { result ≡ (send_of (words_of R.RecordKind R.Number.Fixed) (model_of F.Shaped.shape B.Shaped.shape link.old)).answer }
     ensures after { model_of F.Shaped.shape B.Shaped.shape link.new ≡ (send_of (words_of R.RecordKind R.Number.Fixed) (model_of F.Shaped.shape B.Shaped.shape link.old)).after }
     ensures run { Run (words_of R.RecordKind R.Number.Fixed) (behaviour_of F.Channel) (behaviour_of B.Channel) (state_of link.old) (events (words_of R.RecordKind R.Number.Fixed) (model_of F.Shaped.shape B.Shaped.shape link.old) Send) (state_of link.new) }
@@ -38,7 +36,7 @@ pub(crate) fn send<F: Shaped, B: Shaped, R: RecordKind>(
 }
 
 // Hears a word. Answers what was heard, and what the reply's put answered.
-pub(crate) fn hear<F: Shaped, B: Shaped, R: RecordKind>(
+pub fn hear<F: Shaped, B: Shaped, R: RecordKind>(
     link: &mut Link<F, B, R>,
 ) -> (Result<(), Refusal>, Result<(), Refusal>)
     ensures heard { result.0 ≡ (hear_of (words_of R.RecordKind R.Number.Fixed) (model_of F.Shaped.shape B.Shaped.shape link.old)).heard }
@@ -50,9 +48,7 @@ pub(crate) fn hear<F: Shaped, B: Shaped, R: RecordKind>(
 }
 
 // Settles an acknowledgement.
-pub(crate) fn settle<F: Shaped, B: Shaped, R: RecordKind>(
-    link: &mut Link<F, B, R>,
-) -> Result<(), Refusal>
+pub fn settle<F: Shaped, B: Shaped, R: RecordKind>(link: &mut Link<F, B, R>) -> Result<(), Refusal>
     ensures answer { result ≡ (settle_of (words_of R.RecordKind R.Number.Fixed) (model_of F.Shaped.shape B.Shaped.shape link.old)).answer }
     ensures after { model_of F.Shaped.shape B.Shaped.shape link.new ≡ (settle_of (words_of R.RecordKind R.Number.Fixed) (model_of F.Shaped.shape B.Shaped.shape link.old)).after }
     ensures run { Run (words_of R.RecordKind R.Number.Fixed) (behaviour_of F.Channel) (behaviour_of B.Channel) (state_of link.old) (events (words_of R.RecordKind R.Number.Fixed) (model_of F.Shaped.shape B.Shaped.shape link.old) Settle) (state_of link.new) }
@@ -61,9 +57,7 @@ pub(crate) fn settle<F: Shaped, B: Shaped, R: RecordKind>(
 }
 
 // Ticks both channels.
-pub(crate) fn tick<F: Shaped, B: Shaped, R: RecordKind>(
-    link: &mut Link<F, B, R>,
-) -> Result<(), Refusal>
+pub fn tick<F: Shaped, B: Shaped, R: RecordKind>(link: &mut Link<F, B, R>) -> Result<(), Refusal>
     ensures answer { result ≡ (tick_of (words_of R.RecordKind R.Number.Fixed) (model_of F.Shaped.shape B.Shaped.shape link.old)).answer }
     ensures after { model_of F.Shaped.shape B.Shaped.shape link.new ≡ (tick_of (words_of R.RecordKind R.Number.Fixed) (model_of F.Shaped.shape B.Shaped.shape link.old)).after }
     ensures run { Run (words_of R.RecordKind R.Number.Fixed) (behaviour_of F.Channel) (behaviour_of B.Channel) (state_of link.old) (events (words_of R.RecordKind R.Number.Fixed) (model_of F.Shaped.shape B.Shaped.shape link.old) Tick) (state_of link.new) }
@@ -72,7 +66,7 @@ pub(crate) fn tick<F: Shaped, B: Shaped, R: RecordKind>(
 }
 
 // Send, hear, settle and tick. Answers send's, hear's two and settle's answer.
-pub(crate) fn round<F: Shaped, B: Shaped, R: RecordKind>(
+pub fn round<F: Shaped, B: Shaped, R: RecordKind>(
     link: &mut Link<F, B, R>,
 ) -> (
     Result<(), Refusal>,

@@ -2,11 +2,11 @@
 #![tactic(auto)]
 
 pub mod calls;
-mod computed;
+pub mod computed;
 pub mod disturbing;
 pub mod making;
 pub mod running;
-mod wire_faults;
+pub mod wire_faults;
 
 pub use calls::{Call, Fault};
 pub use disturbing::{disturb, inflict};

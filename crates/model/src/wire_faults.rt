@@ -9,7 +9,7 @@ use shapes::Shaped;
 use wire::Refusal;
 
 // Puts any word on the forward channel.
-pub(crate) fn put_forward<F: Shaped, B: Shaped, R: RecordKind>(
+pub fn put_forward<F: Shaped, B: Shaped, R: RecordKind>(
     link: &mut Link<F, B, R>,
     word: u64,
 ) -> Result<(), Refusal>
@@ -20,7 +20,7 @@ pub(crate) fn put_forward<F: Shaped, B: Shaped, R: RecordKind>(
 }
 
 // Puts any word on the back channel.
-pub(crate) fn put_back<F: Shaped, B: Shaped, R: RecordKind>(
+pub fn put_back<F: Shaped, B: Shaped, R: RecordKind>(
     link: &mut Link<F, B, R>,
     word: u64,
 ) -> Result<(), Refusal>
@@ -31,7 +31,7 @@ pub(crate) fn put_back<F: Shaped, B: Shaped, R: RecordKind>(
 }
 
 // Takes the forward channel's oldest word and lets it go.
-pub(crate) fn discard_forward<F: Shaped, B: Shaped, R: RecordKind>(
+pub fn discard_forward<F: Shaped, B: Shaped, R: RecordKind>(
     link: &mut Link<F, B, R>,
 ) -> Result<(), Refusal>
     ensures answer { result ≡ (discard_forward_of (model_of F.Shaped.shape B.Shaped.shape link.old)).answer }
@@ -41,7 +41,7 @@ pub(crate) fn discard_forward<F: Shaped, B: Shaped, R: RecordKind>(
 }
 
 // Takes the back channel's oldest word and lets it go.
-pub(crate) fn discard_back<F: Shaped, B: Shaped, R: RecordKind>(
+pub fn discard_back<F: Shaped, B: Shaped, R: RecordKind>(
     link: &mut Link<F, B, R>,
 ) -> Result<(), Refusal>
     ensures answer { result ≡ (discard_back_of (model_of F.Shaped.shape B.Shaped.shape link.old)).answer }

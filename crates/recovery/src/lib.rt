@@ -7,6 +7,7 @@ ghost use Rattle.recovery.specs.Findings.{NamesFirst};
 ghost use Rattle.recovery.specs.Promise.{Promise};
 
 use channel::Channel;
+pub use ends::{Observer, Receiver, Sender, State};
 
 // The promise, for records of any type and any two sorts of channel.
 pub fn recovers<T, F: Channel, B: Channel>()

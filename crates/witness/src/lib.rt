@@ -1,7 +1,7 @@
 // The promise that a link recovers is about something: links that are handed over past their check, and what they go through.
 #![tactic(auto)]
 
-ghost use Rattle.std.specs.Prelude.{◌≡◌, true, false, ◌&&◌, leb, [], ◌∷◌, if◌then◌else◌, Ok, Err, nat_le};
+ghost use Rattle.std.specs.Prelude.{◌≡◌, true, false, ◌&&◌, [], ◌∷◌, if◌then◌else◌, Ok, Err, nat_le};
 ghost use Rattle.wire.specs.declared.refusal.Refusal.TheVariants.{Labels};
 ghost use Rattle.link.specs.States.{state_of};
 ghost use Rattle.shapes.specs.Stacks.{ring_shape};
@@ -20,7 +20,7 @@ use wire::Refusal;
 
 // The first standard set-up passes its check with 4 labels and more, up to 256.
 pub fn check_first(labels: u16) -> Result<(), Refusal>
-    ensures { result ≡ (if leb 4 labels && nat_le labels 256 then Ok tt else Err Labels) }
+    ensures { result ≡ (if nat_le 4 labels && nat_le labels 256 then Ok tt else Err Labels) }
 {
     check(&first_forward(), &first_back(), labels)
 }
