@@ -2,7 +2,7 @@
 use Rattle.std.proofs.Common.{◌≡◌, ℕ, ◌^◌, ◌<◌, false, eqb, length, None, Ok, refl, ap, ◌∙◌, ap₂, arith}
 use Rattle.std.proofs.lemmas.Bool.{and_left, cond-true, cond-false, eq-eqb}
 use Rattle.text.specs.Hex.{hex_number, hex_digits}
-use Rattle.text.proofs.Digits.{digits_read, length_digits}
+use Rattle.text.proofs.HexDigits.{digits_read, length_digits}
 use Rattle.wire.specs.declared.word.Word.{Word}
 use Rattle.wire.specs.Words.{packed, acknowledges}
 use Rattle.wire.proofs.Roundtrip.{packed-reads}

@@ -6,7 +6,7 @@ use crate::message::{Fault, Message};
 use crate::tally::Tally;
 use std::alloc::Global;
 use std::fmt;
-use text::lines::split_line;
+use text::lines::Lines;
 
 // A line for each line of a capture, and a last one with the counts. An `Err` says that there is no memory.
 pub fn report(heap: Global, capture: &[u8]) -> Result<String, fmt::Error>
@@ -14,12 +14,10 @@ pub fn report(heap: Global, capture: &[u8]) -> Result<String, fmt::Error>
 {
     let mut page = String::new(heap);
     let mut tally = Tally::new();
-    let mut rest = capture;
-    while let Some((line, after)) = split_line(rest) {
+    for line in Lines::new(capture) {
         let found = decode(line);
         add_line(&mut page, found)?;
         tally = tally.after(found);
-        rest = after;
     }
     writeln!(page, "{tally}")?;
     Ok(page)

@@ -18,7 +18,7 @@ pub struct Message {
     pub content: Content,
 }
 
-// Why a line of a capture carries nothing. Kinds are by their numbers.
+// Why a line of a capture carries nothing. Kinds are by their numbers: a word may have any of sixteen, and most have no name.
 #[derive(Clone, Copy, PartialEq, Eq, Debug)]
 pub enum Fault {
     NoWord,

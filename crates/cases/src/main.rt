@@ -1,7 +1,7 @@
 // Runs the report of each script in a file of cases on standard input, and compares it with what another program says.
 #![tactic(auto)]
 
-use comparing::{agrees, split_case};
+use comparing::{Cases, agrees};
 use std::io;
 use std::io::{Read, Write};
 
@@ -12,10 +12,10 @@ fn main(rt: HostRuntime) -> io::Result<()> {
     let mut file = Vec::new(rt.alloc());
     rt.stdin().read_to_end(&mut file)?;
     let mut page = vec![in rt.alloc(); 0u8; PAGE]?;
-    let mut rest = file.as_slice();
+    let mut cases = Cases::new(&file);
     let mut agree: u64 = 0;
     let mut disagree: u64 = 0;
-    while let Some((case, after)) = split_case(rest) {
+    for case in cases.by_ref() {
         if agrees(case.script, case.expected, &mut page) {
             agree = agree.saturating_add(1);
         } else {
@@ -23,13 +23,13 @@ fn main(rt: HostRuntime) -> io::Result<()> {
             rt.stdout().write_all(case.name)?;
             println!(rt; ": disagrees")?;
         }
-        rest = after;
     }
-    let cases = agree.saturating_add(disagree);
-    print!(rt; "{cases} cases: {agree} agree, {disagree} disagree")?;
+    let count = agree.saturating_add(disagree);
+    print!(rt; "{count} cases: {agree} agree, {disagree} disagree")?;
+    let rest = cases.rest();
     if rest.is_empty() {
         return println!(rt; "");
     }
-    let place = file.len() - rest.len();
+    let place = file.len().saturating_sub(rest.len());
     println!(rt; "; the file has another form from byte {place} on")
 }

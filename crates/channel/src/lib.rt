@@ -9,6 +9,7 @@ ghost use Rattle.channel.specs.Rules.{ChannelRules};
 
 use wire::Refusal;
 
+// Every channel says by ghost members of its own what it means, so that each can be read and shown alone.
 pub trait Channel {
     // the words held, the oldest first
     ghost contents: { Self → List ℕ };

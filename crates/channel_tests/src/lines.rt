@@ -1,6 +1,5 @@
 use crate::steps::{Step, run};
 use queues::DelayLine;
-use std::test::Fail;
 use wire::Refusal;
 
 #[test]
@@ -13,17 +12,17 @@ fn limits(rt: HostRuntime) {
 
 // Both numbers are replaced where one is out of limits.
 #[test]
-fn too_late_asked(rt: HostRuntime) -> Result<(), Fail> {
+fn too_late_asked(rt: HostRuntime) {
     run(&rt, DelayLine::new(5, 16), &[Step::Numbers(1, 0, 0)])
 }
 
 #[test]
-fn too_much_asked(rt: HostRuntime) -> Result<(), Fail> {
+fn too_much_asked(rt: HostRuntime) {
     run(&rt, DelayLine::new(65, 3), &[Step::Numbers(1, 0, 0)])
 }
 
 #[test]
-fn no_delay(rt: HostRuntime) -> Result<(), Fail> {
+fn no_delay(rt: HostRuntime) {
     run(
         &rt,
         DelayLine::new(1, 0),
@@ -32,7 +31,7 @@ fn no_delay(rt: HostRuntime) -> Result<(), Fail> {
 }
 
 #[test]
-fn longest_delay(rt: HostRuntime) -> Result<(), Fail> {
+fn longest_delay(rt: HostRuntime) {
     run(
         &rt,
         DelayLine::new(64, 15),
@@ -50,7 +49,7 @@ fn longest_delay(rt: HostRuntime) -> Result<(), Fail> {
 
 // A word put later is due later.
 #[test]
-fn each_its_own(rt: HostRuntime) -> Result<(), Fail> {
+fn each_its_own(rt: HostRuntime) {
     run(
         &rt,
         DelayLine::new(3, 2),
@@ -68,7 +67,7 @@ fn each_its_own(rt: HostRuntime) -> Result<(), Fail> {
 
 // The due numbers go round the buffer's end with their words.
 #[test]
-fn round_the_end(rt: HostRuntime) -> Result<(), Fail> {
+fn round_the_end(rt: HostRuntime) {
     run(
         &rt,
         DelayLine::new(64, 1),
@@ -84,4 +83,22 @@ fn round_the_end(rt: HostRuntime) -> Result<(), Fail> {
             Step::Take(101),
         ],
     )
+}
+
+// The count of the ticks begins again after 65,520, and a word that waits then still waits as long.
+#[test]
+fn ticks_counted_anew(rt: HostRuntime) {
+    run(
+        &rt,
+        DelayLine::new(2, 3),
+        &[
+            Step::Wait(65_519),
+            Step::Put(7),
+            Step::Wait(3),
+            Step::Take(7),
+            Step::Put(8),
+            Step::Wait(3),
+            Step::Take(8),
+        ],
+    );
 }

@@ -1,10 +1,9 @@
 use crate::steps::{Step, run};
 use lossy::Loss;
 use queues::Ring;
-use std::test::Fail;
 
 #[test]
-fn first_bit(rt: HostRuntime) -> Result<(), Fail> {
+fn first_bit(rt: HostRuntime) {
     run(
         &rt,
         Loss::new(1 << 63, Ring::new(2)),
@@ -21,7 +20,7 @@ fn first_bit(rt: HostRuntime) -> Result<(), Fail> {
 
 // Only the 64th word is lost.
 #[test]
-fn last_bit(rt: HostRuntime) -> Result<(), Fail> {
+fn last_bit(rt: HostRuntime) {
     run(
         &rt,
         Loss::new(1, Ring::new(64)),
@@ -36,7 +35,7 @@ fn last_bit(rt: HostRuntime) -> Result<(), Fail> {
 }
 
 #[test]
-fn all_bits(rt: HostRuntime) -> Result<(), Fail> {
+fn all_bits(rt: HostRuntime) {
     run(
         &rt,
         Loss::new(0xFFFFFFFFFFFFFFFF, Ring::new(1)),
@@ -52,7 +51,7 @@ fn all_bits(rt: HostRuntime) -> Result<(), Fail> {
 
 // A refused put spends no bit: the next accepted one is lost.
 #[test]
-fn refused(rt: HostRuntime) -> Result<(), Fail> {
+fn refused(rt: HostRuntime) {
     run(
         &rt,
         Loss::new(1 << 62, Ring::new(1)),
@@ -69,7 +68,7 @@ fn refused(rt: HostRuntime) -> Result<(), Fail> {
 
 // A layer over a layer: the losses add up, and the upper pattern comes first.
 #[test]
-fn twice(rt: HostRuntime) -> Result<(), Fail> {
+fn twice(rt: HostRuntime) {
     run(
         &rt,
         Loss::new(1 << 63, Loss::new(1 << 63, Ring::new(1))),

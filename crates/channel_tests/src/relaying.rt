@@ -2,10 +2,9 @@ use crate::steps::{Step, run};
 use lossy::Loss;
 use queues::{DelayLine, Ring};
 use relays::Relay;
-use std::test::Fail;
 
 #[test]
-fn one_word_a_tick(rt: HostRuntime) -> Result<(), Fail> {
+fn one_word_a_tick(rt: HostRuntime) {
     run(
         &rt,
         Relay::new(Ring::new(2), Ring::new(2)),
@@ -25,7 +24,7 @@ fn one_word_a_tick(rt: HostRuntime) -> Result<(), Fail> {
 
 // A closed lower takes nothing more, and what the upper holds stays.
 #[test]
-fn closed_below(rt: HostRuntime) -> Result<(), Fail> {
+fn closed_below(rt: HostRuntime) {
     run(
         &rt,
         Relay::new(Ring::new(1), Ring::new(1)),
@@ -45,7 +44,7 @@ fn closed_below(rt: HostRuntime) -> Result<(), Fail> {
 
 // What moves down can be lost on its way.
 #[test]
-fn lost_on_the_way(rt: HostRuntime) -> Result<(), Fail> {
+fn lost_on_the_way(rt: HostRuntime) {
     run(
         &rt,
         Relay::new(Ring::new(1), Loss::new(1 << 63, Ring::new(1))),
@@ -62,7 +61,7 @@ fn lost_on_the_way(rt: HostRuntime) -> Result<(), Fail> {
 
 // The delay is the longest that a word can wait; this one is ready a tick before.
 #[test]
-fn relay_in_relay(rt: HostRuntime) -> Result<(), Fail> {
+fn relay_in_relay(rt: HostRuntime) {
     run(
         &rt,
         Relay::new(Relay::new(Ring::new(1), DelayLine::new(1, 1)), Ring::new(1)),
@@ -78,7 +77,7 @@ fn relay_in_relay(rt: HostRuntime) -> Result<(), Fail> {
 
 // Loss over relay over loss.
 #[test]
-fn layers_in_layers(rt: HostRuntime) -> Result<(), Fail> {
+fn layers_in_layers(rt: HostRuntime) {
     run(
         &rt,
         Loss::new(

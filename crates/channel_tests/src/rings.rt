@@ -1,6 +1,5 @@
 use crate::steps::{Step, run};
 use queues::Ring;
-use std::test::Fail;
 use wire::Refusal;
 
 #[test]
@@ -12,17 +11,17 @@ fn limits(rt: HostRuntime) {
 }
 
 #[test]
-fn no_room_asked(rt: HostRuntime) -> Result<(), Fail> {
+fn no_room_asked(rt: HostRuntime) {
     run(&rt, Ring::new(0), &[Step::Numbers(1, 0, 0)])
 }
 
 #[test]
-fn too_much_asked(rt: HostRuntime) -> Result<(), Fail> {
+fn too_much_asked(rt: HostRuntime) {
     run(&rt, Ring::new(65), &[Step::Numbers(1, 0, 0)])
 }
 
 #[test]
-fn one_place(rt: HostRuntime) -> Result<(), Fail> {
+fn one_place(rt: HostRuntime) {
     run(
         &rt,
         Ring::new(1),
@@ -40,7 +39,7 @@ fn one_place(rt: HostRuntime) -> Result<(), Fail> {
 }
 
 #[test]
-fn all_places(rt: HostRuntime) -> Result<(), Fail> {
+fn all_places(rt: HostRuntime) {
     run(
         &rt,
         Ring::new(64),
@@ -59,7 +58,7 @@ fn all_places(rt: HostRuntime) -> Result<(), Fail> {
 
 // The words stand on both sides of the buffer's end.
 #[test]
-fn round_the_end(rt: HostRuntime) -> Result<(), Fail> {
+fn round_the_end(rt: HostRuntime) {
     run(
         &rt,
         Ring::new(64),

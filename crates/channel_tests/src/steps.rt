@@ -1,6 +1,5 @@
 use channel::Channel;
 use std::process::Abort;
-use std::test::Fail;
 use wire::Refusal;
 
 // A call with the answer that it has to give, or several.
@@ -25,48 +24,18 @@ pub enum Step {
     Wait(u16),
 }
 
-fn call<C: Channel>(rt: &impl Abort, wire: &mut C, step: Step) -> Result<(), Fail> {
+fn call<C: Channel>(rt: &impl Abort, wire: &mut C, step: Step) {
     match step {
-        Step::Put(word) => {
-            assert_eq!(rt; wire.put(word), Ok(()));
-            Ok(())
-        },
-        Step::Full(word) => {
-            assert_eq!(rt; wire.put(word), Err(Refusal::Full));
-            Ok(())
-        },
-        Step::Take(word) => {
-            assert_eq!(rt; wire.take(), Ok(word));
-            Ok(())
-        },
-        Step::Silent => {
-            assert_eq!(rt; wire.take(), Err(Refusal::Silent));
-            Ok(())
-        },
-        Step::Tick => {
-            wire.tick();
-            Ok(())
-        }
-        Step::See(at, word) => {
-            assert_eq!(rt; wire.peek(at), Ok(word));
-            Ok(())
-        },
-        Step::Past(at) => {
-            assert_eq!(rt; wire.peek(at), Err(Refusal::Place));
-            Ok(())
-        },
-        Step::Load(load) => {
-            assert_eq!(rt; wire.load(), load);
-            Ok(())
-        },
-        Step::Losses(losses) => {
-            assert_eq!(rt; wire.losses(), losses);
-            Ok(())
-        },
-        Step::Open(open) => {
-            assert_eq!(rt; wire.is_open(), open);
-            Ok(())
-        },
+        Step::Put(word) => assert_eq!(rt; wire.put(word), Ok(())),
+        Step::Full(word) => assert_eq!(rt; wire.put(word), Err(Refusal::Full)),
+        Step::Take(word) => assert_eq!(rt; wire.take(), Ok(word)),
+        Step::Silent => assert_eq!(rt; wire.take(), Err(Refusal::Silent)),
+        Step::Tick => wire.tick(),
+        Step::See(at, word) => assert_eq!(rt; wire.peek(at), Ok(word)),
+        Step::Past(at) => assert_eq!(rt; wire.peek(at), Err(Refusal::Place)),
+        Step::Load(load) => assert_eq!(rt; wire.load(), load),
+        Step::Losses(losses) => assert_eq!(rt; wire.losses(), losses),
+        Step::Open(open) => assert_eq!(rt; wire.is_open(), open),
         Step::Numbers(capacity, delay, losses) => numbers(rt, wire, capacity, delay, losses),
         Step::PutAll(from, to) => put_all(rt, wire, from, to),
         Step::TakeAll(from, to) => take_all(rt, wire, from, to),
@@ -74,44 +43,33 @@ fn call<C: Channel>(rt: &impl Abort, wire: &mut C, step: Step) -> Result<(), Fai
     }
 }
 
-fn numbers<C: Channel>(
-    rt: &impl Abort,
-    wire: &C,
-    capacity: u16,
-    delay: u16,
-    losses: u16,
-) -> Result<(), Fail> {
+fn numbers<C: Channel>(rt: &impl Abort, wire: &C, capacity: u16, delay: u16, losses: u16) {
     assert_eq!(rt; wire.capacity(), capacity);
     assert_eq!(rt; wire.delay(), delay);
     assert_eq!(rt; wire.losses(), losses);
-    Ok(())
 }
 
-fn put_all<C: Channel>(rt: &impl Abort, wire: &mut C, from: u64, to: u64) -> Result<(), Fail> {
+fn put_all<C: Channel>(rt: &impl Abort, wire: &mut C, from: u64, to: u64) {
     for word in from..to {
         assert_eq!(rt; wire.put(word), Ok(()));
     }
-    Ok(())
 }
 
-fn take_all<C: Channel>(rt: &impl Abort, wire: &mut C, from: u64, to: u64) -> Result<(), Fail> {
+fn take_all<C: Channel>(rt: &impl Abort, wire: &mut C, from: u64, to: u64) {
     for word in from..to {
         assert_eq!(rt; wire.take(), Ok(word));
     }
-    Ok(())
 }
 
-fn wait<C: Channel>(rt: &impl Abort, wire: &mut C, ticks: u16) -> Result<(), Fail> {
+fn wait<C: Channel>(rt: &impl Abort, wire: &mut C, ticks: u16) {
     for _ in 0..ticks {
         assert_eq!(rt; wire.take(), Err(Refusal::Silent));
         wire.tick();
     }
-    Ok(())
 }
 
-pub fn run<C: Channel + Drop>(rt: &impl Abort, mut wire: C, steps: &[Step]) -> Result<(), Fail> {
+pub fn run<C: Channel + Drop>(rt: &impl Abort, mut wire: C, steps: &[Step]) {
     for step in steps {
-        call(rt, &mut wire, *step)?;
+        call(rt, &mut wire, *step);
     }
-    Ok(())
 }

@@ -4,5 +4,5 @@ use Rattle.channel.specs.Meaning.{Behaviour}
 use Rattle.link.specs.States.{state_of}
 use Rattle.link.specs.declared.state.Link.{Link}
 
-abbrev pub places_of : {F B R X Y Z : Type 0} → Behaviour F → Behaviour B → Link F B R X Y Z → ℕ
+abbrev pub places_of : {F B R Rec : Type 0} → Behaviour F → Behaviour B → Link F B R Rec → ℕ
 places_of forward back l = (forward.means (state_of l).forward).capacity + (back.means (state_of l).back).capacity

@@ -12,7 +12,7 @@ ghost use Rattle.client.specs.Turns.{verdict_of, Turns, Exchanged, AllDelivered}
 
 use channel::Channel;
 use link::{Link, Observer};
-use records::{Fixed, RecordKind};
+use records::RecordKind;
 use wire::Refusal;
 
 // Takes over a link and offers a record before each of some rounds. Refused as the link's check is, and then nothing changes.
@@ -23,10 +23,10 @@ pub fn exchange<F: Channel, B: Channel, R: RecordKind>(
     r: R::Record,
     rounds: u32,
 ) -> Result<Observer, Refusal>
-    ensures answer { verdict_of result ≡ checked_link (words_of R.RecordKind R.Number.Fixed) (behaviour_of F.Channel) (behaviour_of B.Channel) 256 (state_of link.old) }
-    ensures turns { Exchanged (words_of R.RecordKind R.Number.Fixed) (behaviour_of F.Channel) (behaviour_of B.Channel) r rounds (state_of link.old) result (state_of link.new) }
+    ensures answer { verdict_of result ≡ checked_link (words_of R.RecordKind) (behaviour_of F.Channel) (behaviour_of B.Channel) 256 (state_of link.old) }
+    ensures turns { Exchanged (words_of R.RecordKind) (behaviour_of F.Channel) (behaviour_of B.Channel) r rounds (state_of link.old) result (state_of link.new) }
     ensures first { IfOk result (λ o. places_of (behaviour_of F.Channel) (behaviour_of B.Channel) link.old + 2 ≤ o.completed → (0 < o.first) × (o.first ≤ places_of (behaviour_of F.Channel) (behaviour_of B.Channel) link.old + 2)) }
-    ensures delivered { OnOk result (AllDelivered (words_of R.RecordKind R.Number.Fixed) (behaviour_of F.Channel) (behaviour_of B.Channel) (observed_anew (state_of link.old)) (state_of link.new)) }
+    ensures delivered { OnOk result (AllDelivered (words_of R.RecordKind) (behaviour_of F.Channel) (behaviour_of B.Channel) (observed_anew (state_of link.old)) (state_of link.new)) }
 {
     link.check()?;
     link.handover();
@@ -40,7 +40,7 @@ fn perform<F: Channel, B: Channel, R: RecordKind>(
     r: R::Record,
     rounds: u32,
 )
-    ensures { Turns (words_of R.RecordKind R.Number.Fixed) (behaviour_of F.Channel) (behaviour_of B.Channel) r (state_of link.old) rounds (state_of link.new) }
+    ensures { Turns (words_of R.RecordKind) (behaviour_of F.Channel) (behaviour_of B.Channel) r (state_of link.old) rounds (state_of link.new) }
 {
     for done in 0..rounds {
         let _ = link.offer(r);

@@ -3,7 +3,6 @@ use Rattle.std.specs.Prelude.{ℕ, true, cond, ◌&&◌, Some, None, Option, ◌
 use Rattle.wire.specs.declared.word.Word.{Word}
 use Rattle.wire.specs.Words.{word_of, packed, reads, acknowledges, acknowledgement}
 use Rattle.recovery.specs.Codec.{Codec}
-use Rattle.records.specs.declared.fixed.Fixed as fixed
 use Rattle.records.specs.declared.kind.RecordKind as kind
 use Rattle.codec.specs.declared.config.Config.{Config}
 
@@ -45,6 +44,6 @@ codec number payload kindReads c = record {
   read_ack = read_ack c.labels;
 }
 
--- the same, by the ghost members of its kind and of the type that fixes the kind's number
-abbrev pub words_of : {R N L Rec : Type 0} → kind.Ghosts R N L Rec → fixed.Ghosts N → Config R → Codec Rec
-words_of k n = codec n.worth k.payload k.reads
+-- the same, by the ghost members of its kind
+abbrev pub words_of : {R Rec : Type 0} → kind.Ghosts R Rec → Config R → Codec Rec
+words_of k = codec k.NUMBER k.payload k.reads

@@ -5,7 +5,7 @@ pub mod kind;
 pub mod text;
 pub mod values;
 
-// A command that the table takes.
+// A command that the table takes. Its code stays a number, since the table says by codes what arguments there are; `action` names it.
 #[derive(Clone, Copy, PartialEq, Eq, Debug)]
 pub struct Command {
     code: u8,

@@ -1,11 +1,8 @@
 pub mod split;
 
-// What the other program says of a script: the bytes of its report, or the number of a refusal.
-#[derive(Clone, Copy)]
-pub enum Expected<'a> {
-    Report(&'a [u8]),
-    Refused(u64),
-}
+// What the other program says of a script: the bytes of its report, or the number of a refusal. It stays a number, since the
+// other program may name one outside the table.
+pub type Expected<'a> = Result<&'a [u8], u64>;
 
 // A script under a name, and what the other program says of it.
 #[derive(Clone, Copy)]

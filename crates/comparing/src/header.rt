@@ -1,12 +1,8 @@
 // The first line of a case, as `case NAME script LENGTH report LENGTH` or `case NAME script LENGTH refused NUMBER`.
 use fields::Fields;
 
-// What comes after the script, by the header: so many bytes of report, or nothing, since the script is refused.
-#[derive(Clone, Copy)]
-pub enum Claim {
-    Report(u64),
-    Refused(u64),
-}
+// What comes after the script, by the header: so many bytes of report, or nothing, since the script is refused by a number.
+pub type Claim = Result<u64, u64>;
 
 #[derive(Clone, Copy)]
 pub struct Header<'a> {
@@ -27,14 +23,11 @@ pub fn parse_header(line: &[u8]) -> Option<Header<'_>> {
     }
     let script = fields.number(u64::MAX)?;
     let claim = match fields.word()? {
-        b"report" => Claim::Report(fields.number(u64::MAX)?),
-        b"refused" => Claim::Refused(fields.number(u64::MAX)?),
+        b"report" => Ok(fields.number(u64::MAX)?),
+        b"refused" => Err(fields.number(u64::MAX)?),
         _ => return None,
     };
-    if !fields.is_done() {
-        return None;
-    }
-    Some(Header {
+    fields.is_done().then_some(Header {
         name,
         script,
         claim,
@@ -43,11 +36,6 @@ pub fn parse_header(line: &[u8]) -> Option<Header<'_>> {
 
 // A name has letters, digits, `_` and `-`, at least one.
 fn is_name(name: &[u8]) -> bool {
-    for byte in name {
-        match byte {
-            b'a'..=b'z' | b'A'..=b'Z' | b'0'..=b'9' | b'_' | b'-' => {}
-            _ => return false,
-        }
-    }
     !name.is_empty()
+        && name.iter().all(|byte| byte.is_ascii_alphanumeric() || matches!(byte, b'_' | b'-'))
 }

@@ -6,5 +6,5 @@ pub mod case;
 pub mod header;
 
 pub use agreement::agrees;
-pub use case::split::split_case;
+pub use case::split::{Cases, split_case};
 pub use case::{Case, Expected};

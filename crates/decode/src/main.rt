@@ -8,8 +8,8 @@ use std::io::Read;
 fn main(rt: HostRuntime) -> io::Result<()> {
     let mut capture = Vec::new(rt.alloc());
     rt.stdin().read_to_end(&mut capture)?;
-    match report(rt.alloc(), &capture) {
-        Ok(page) => rt.print(page),
-        Err(_) => Err(io::Error::other("no memory for the report")),
-    }
+    let page = report(rt.alloc(), &capture).map_err(|_| io::Error::other(
+        "no memory for the report",
+    ))?;
+    rt.print(page)
 }

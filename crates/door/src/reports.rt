@@ -4,6 +4,7 @@ ghost use Rattle.wire.specs.Refusals.{answer_of};
 ghost use Rattle.report.specs.Reports.{report_of};
 ghost use Rattle.door.specs.Outputs.{after};
 
+use crate::status::give;
 use report::report;
 
 // Writes the report of a script to a page, and its length; all bytes of the page beyond it stay. Refused `page` where the
@@ -14,11 +15,5 @@ pub extern "C" fn gelmuska_report(script: &[u8], page: &mut [u8], length: &mut u
     ensures page { page.new ≡ (report_of script.now page.old).1 }
     ensures length { length.new ≡ after (report_of script.now page.old).0 length.old }
 {
-    match report(script, page) {
-        Ok(written) => {
-            *length = written as u64;
-            0
-        }
-        Err(refusal) => refusal.number() as u32,
-    }
+    give(report(script, page).map(|written| written as u64), length)
 }

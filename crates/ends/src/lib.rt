@@ -6,7 +6,6 @@ pub mod receiver;
 pub mod sender;
 
 pub use observer::Observer;
-pub use observer::counting::after_fault;
 pub use receiver::Receiver;
 pub use sender::moves::decide;
 pub use sender::{Sender, State};

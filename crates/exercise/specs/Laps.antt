@@ -7,7 +7,7 @@ use Rattle.recovery.specs.Check.{checked}
 use Rattle.recovery.specs.Codec.{Codec}
 use Rattle.codec.specs.declared.config.Config.{Config}
 use Rattle.shapes.specs.Shapes.{Shape, means}
-use Rattle.model.specs.declared.calls.Call.TheVariants.{Offer, Round}
+use Rattle.link.specs.declared.calls.Call.TheVariants.{Offer, Round}
 use Rattle.model.specs.Models.{Model}
 use Rattle.model.specs.Makings.{new_of}
 use Rattle.model.specs.Sequences.{after}

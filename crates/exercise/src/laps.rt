@@ -6,7 +6,7 @@ ghost use Rattle.exercise.specs.Laps.{lap, laps as laps_of, exercised};
 use ends::Observer;
 use link::{Link, check};
 use model::{Call, make, perform};
-use records::{Fixed, RecordKind};
+use records::RecordKind;
 use shapes::Shaped;
 use wire::Refusal;
 
@@ -20,16 +20,12 @@ pub fn exercise<F: Shaped + Drop, B: Shaped + Drop, R: RecordKind + Drop>(
     back: B,
     rounds: u32,
 ) -> Result<Observer, Refusal>
-    ensures { result ≡ exercised (words_of R.RecordKind R.Number.Fixed) kind labels (F.Shaped.shape forward) (B.Shaped.shape back) «record» rounds }
+    ensures { result ≡ exercised (words_of R.RecordKind) kind labels (F.Shaped.shape forward) (B.Shaped.shape back) «record» rounds }
 {
-    match check(&forward, &back, labels) {
-        Err(refusal) => Err(refusal),
-        Ok(()) => {
-            let mut link = make(kind, labels, forward, back, record);
-            repeat(&mut link, record, rounds);
-            Ok(link.observer())
-        }
-    }
+    check(&forward, &back, labels)?;
+    let mut link = make(kind, labels, forward, back, record);
+    repeat(&mut link, record, rounds);
+    Ok(link.observer())
 }
 
 // An offer and a round, so many times.
@@ -38,7 +34,7 @@ fn repeat<F: Shaped, B: Shaped, R: RecordKind>(
     record: R::Record,
     rounds: u32,
 )
-    ensures { model_of F.Shaped.shape B.Shaped.shape link.new ≡ laps_of (words_of R.RecordKind R.Number.Fixed) rounds (model_of F.Shaped.shape B.Shaped.shape link.old) «record» }
+    ensures { model_of F.Shaped.shape B.Shaped.shape link.new ≡ laps_of (words_of R.RecordKind) rounds (model_of F.Shaped.shape B.Shaped.shape link.old) «record» }
 {
     for _turn in 0..rounds {
         exchange(link, record);
@@ -47,7 +43,7 @@ fn repeat<F: Shaped, B: Shaped, R: RecordKind>(
 
 // An offer and a round.
 fn exchange<F: Shaped, B: Shaped, R: RecordKind>(link: &mut Link<F, B, R>, record: R::Record)
-    ensures { model_of F.Shaped.shape B.Shaped.shape link.new ≡ lap (words_of R.RecordKind R.Number.Fixed) (model_of F.Shaped.shape B.Shaped.shape link.old) «record» }
+    ensures { model_of F.Shaped.shape B.Shaped.shape link.new ≡ lap (words_of R.RecordKind) (model_of F.Shaped.shape B.Shaped.shape link.old) «record» }
 {
     perform(link, Call::Offer(record));
     perform(link, Call::Round);

@@ -1,18 +1,14 @@
 -- Decimal numbers, the most significant figure first. Assumes nothing.
-use Rattle.std.specs.Prelude.{ℕ, ◌+◌, ◌-◌, ◌*◌, Bool, true, false, cond, not, ◌&&◌, List, [], ◌∷◌, length, Some, None, Option, ◌==◌, nat_le}
+use Rattle.std.specs.Prelude.{ℕ, ◌-◌, Bool, true, false, cond, not, ◌&&◌, List, [], ◌∷◌, length, Some, None, Option, ◌==◌, nat_le}
+use Rattle.text.specs.Digits.{number_from}
 
 -- '0' to '9' are bytes 48 to 57
 abbrev pub figure : ℕ → Option ℕ
 figure c = cond (nat_le 48 c && nat_le c 57) (Some (c - 48)) None
 
-abbrev pub next : Option ℕ → (ℕ → Option ℕ) → Option ℕ
-next (Some d) f = f d
-next None f = None
-
 -- the number that figures write behind what was read before them
 abbrev pub decimal_from : ℕ → List ℕ → Option ℕ
-decimal_from n [] = Some n
-decimal_from n (c ∷ cs) = next (figure c) (λ d. decimal_from (n * 10 + d) cs)
+decimal_from = number_from figure 10
 
 -- there is a figure, and no zero before another
 abbrev pub is_plain : List ℕ → Bool

@@ -1,19 +1,19 @@
 -- A line by its fields, which single spaces (byte 32) divide. Assumes nothing.
-use Rattle.std.specs.Prelude.{ℕ, suc, cond, List, [], ◌∷◌, length, take, drop, Some, None, Option, ◌==◌, nat_le, nat_lt}
+use Rattle.std.specs.Prelude.{ℕ, cond, List, length, Some, None, Option, ◌==◌, nat_le}
+use Rattle.text.specs.Parts.{length_before, part_before, part_after}
 use Rattle.text.specs.Hex.{hex_number}
 use Rattle.fields.specs.Decimals.{decimal_number}
 
 -- how many bytes stand before the first space
 abbrev pub field_length : List ℕ → ℕ
-field_length [] = 0
-field_length (c ∷ cs) = cond (c == 32) 0 (suc (field_length cs))
+field_length line = length_before 32 line
 
 abbrev pub field_of : List ℕ → List ℕ
-field_of line = take (field_length line) line
+field_of line = part_before 32 line
 
 -- what comes after the first space, if there is one
 abbrev pub after_field : List ℕ → Option (List ℕ)
-after_field line = cond (nat_lt (field_length line) (length line)) (Some (drop (suc (field_length line)) line)) None
+after_field line = part_after 32 line
 
 -- of what is left of a line: the next field
 abbrev pub next_field : Option (List ℕ) → Option (List ℕ)

@@ -1,5 +1,4 @@
 use fields::{Fields, parse_decimal};
-use std::test::Fail;
 
 #[test]
 fn reads_plain_numbers_only(rt: HostRuntime) {
@@ -17,18 +16,14 @@ fn reads_plain_numbers_only(rt: HostRuntime) {
 }
 
 #[test]
-fn reads_a_line_field_by_field(rt: HostRuntime) -> Result<(), Fail> {
+fn reads_a_line_field_by_field(rt: HostRuntime) {
     let mut fields = Fields::new(b"peek 255 00F  ");
-    let Some(word) = fields.word() else {
-        return Err(Fail::new("no word"));
-    };
-    assert!(rt; word == b"peek".as_slice());
+    assert_eq!(rt; fields.word(), Some(b"peek".as_slice()));
     assert_eq!(rt; fields.number(255), Some(255));
     assert_eq!(rt; fields.digits(3), Some(15));
     assert!(rt; !fields.is_done());
     assert_eq!(rt; fields.number(9), None);
     assert_eq!(rt; fields.digits(0), Some(0));
     assert!(rt; fields.is_done());
-    assert!(rt; fields.word().is_none());
-    Ok(())
+    assert_eq!(rt; fields.word(), None);
 }

@@ -1,4 +1,3 @@
-use std::test::Fail;
 use text::hex::{digit_value, parse_hex};
 use text::lines::split_line;
 
@@ -22,15 +21,9 @@ fn reads_up_to_sixteen_digits(rt: HostRuntime) {
 }
 
 #[test]
-fn splits_at_line_ends(rt: HostRuntime) -> Result<(), Fail> {
-    assert!(rt; split_line(b"").is_none());
-    let Some((line, rest)) = split_line(b"\nab") else {
-        return Err(Fail::new("no line"));
-    };
-    assert!(rt; line == b"".as_slice() && rest == b"ab".as_slice());
-    let Some((line, rest)) = split_line(rest) else {
-        return Err(Fail::new("no last line"));
-    };
-    assert!(rt; line == b"ab".as_slice() && rest == b"".as_slice());
-    Ok(())
+fn splits_at_line_ends(rt: HostRuntime) {
+    assert_eq!(rt; split_line(b""), None);
+    let (none, ab) = (b"".as_slice(), b"ab".as_slice());
+    assert_eq!(rt; split_line(b"\nab"), Some((none, ab)));
+    assert_eq!(rt; split_line(ab), Some((ab, none)));
 }

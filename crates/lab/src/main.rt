@@ -8,8 +8,8 @@ use std::io::Read;
 fn main(rt: HostRuntime) -> io::Result<()> {
     let mut lines = Vec::new(rt.alloc());
     rt.stdin().read_to_end(&mut lines)?;
-    match answers(rt.alloc(), &lines) {
-        Ok(page) => rt.print(page),
-        Err(_) => Err(io::Error::other("no memory for the answers")),
-    }
+    let page = answers(rt.alloc(), &lines).map_err(|_| io::Error::other(
+        "no memory for the answers",
+    ))?;
+    rt.print(page)
 }

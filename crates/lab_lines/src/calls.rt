@@ -2,10 +2,10 @@
 ghost use Rattle.std.specs.Prelude.{◌≡◌, length};
 ghost use Rattle.channel.specs.Meaning.{answered};
 
-use crate::line::{Call, Fault, OnChannel, Order, Question, Side};
-use crate::reply::{Ends, Name, Questions, Reply, Round};
+use crate::line::{Fault, OnChannel, Order, Question, Side};
+use crate::reply::{Ends, Questions, Reply, Round};
 use channel::Channel;
-use link::Link;
+use link::{Call, Link};
 use records::RecordKind;
 
 pub(crate) fn obey<F: Channel, B: Channel, R: RecordKind>(
@@ -16,6 +16,11 @@ pub(crate) fn obey<F: Channel, B: Channel, R: RecordKind>(
         Order::Channel(side, order) => on_channel(link, side, order),
         Order::Fault(fault) => make_fault(link, fault),
         Order::Call(call) => perform(link, call),
+        Order::Spin(count) => spin(link, count),
+        Order::Handover => {
+            link.handover();
+            Reply::One("handover", Ok(()))
+        }
         Order::Question(question) => look(link, question),
     }
 }
@@ -30,10 +35,10 @@ fn on_channel<F: Channel, B: Channel, R: RecordKind>(
         (Side::Back, OnChannel::Ask) => Reply::Ask(questions(link.back())),
         (Side::Forward, OnChannel::Peek(at)) => Reply::Peek(link.forward().peek(at)),
         (Side::Back, OnChannel::Peek(at)) => Reply::Peek(link.back().peek(at)),
-        (Side::Forward, OnChannel::Put(word)) => Reply::One(Name::Put, link.put_forward(word)),
-        (Side::Back, OnChannel::Put(word)) => Reply::One(Name::Put, link.put_back(word)),
-        (Side::Forward, OnChannel::Discard) => Reply::One(Name::Discard, link.discard_forward()),
-        (Side::Back, OnChannel::Discard) => Reply::One(Name::Discard, link.discard_back()),
+        (Side::Forward, OnChannel::Put(word)) => Reply::One("put", link.put_forward(word)),
+        (Side::Back, OnChannel::Put(word)) => Reply::One("put", link.put_back(word)),
+        (Side::Forward, OnChannel::Discard) => Reply::One("discard", link.discard_forward()),
+        (Side::Back, OnChannel::Discard) => Reply::One("discard", link.discard_back()),
     }
 }
 
@@ -56,30 +61,33 @@ fn make_fault<F: Channel, B: Channel, R: RecordKind>(
     fault: Fault,
 ) -> Reply {
     match fault {
-        Fault::SenderLabel(label) => Reply::One(Name::Sender, link.set_sender_label(label)),
-        Fault::ReceiverLabel(label) => Reply::One(Name::Receiver, link.set_receiver_label(label)),
-        Fault::State(state) => Reply::One(Name::State, link.set_state(state)),
-        Fault::Hand(payload) => match link.kind().unpack(payload) {
-            Ok(r) => Reply::One(Name::Hand, link.set_in_hand(r)),
-            Err(refusal) => Reply::One(Name::Hand, Err(refusal)),
-        },
+        Fault::SenderLabel(label) => Reply::One("sender", link.set_sender_label(label)),
+        Fault::ReceiverLabel(label) => Reply::One("receiver", link.set_receiver_label(label)),
+        Fault::State(state) => Reply::One("state", link.set_state(state)),
+        Fault::Hand(payload) => {
+            let record = link.kind().unpack(payload);
+            Reply::One("hand", record.and_then(|record| link.set_in_hand(record)))
+        }
     }
 }
 
-fn perform<F: Channel, B: Channel, R: RecordKind>(link: &mut Link<F, B, R>, call: Call) -> Reply {
+fn perform<F: Channel, B: Channel, R: RecordKind>(
+    link: &mut Link<F, B, R>,
+    call: Call<u64>,
+) -> Reply {
     match call {
         // a payload that is no record is turned away before the link is asked
-        Call::Offer(payload) => match link.kind().unpack(payload) {
-            Ok(r) => Reply::One(Name::Offer, link.offer(r)),
-            Err(refusal) => Reply::One(Name::Offer, Err(refusal)),
-        },
-        Call::Send => Reply::One(Name::Send, link.send()),
+        Call::Offer(payload) => {
+            let record = link.kind().unpack(payload);
+            Reply::One("offer", record.and_then(|record| link.offer(record)))
+        }
+        Call::Send => Reply::One("send", link.send()),
         Call::Hear => {
             let (heard, reply) = link.hear();
             Reply::Hear(heard, reply)
         }
-        Call::Settle => Reply::One(Name::Settle, link.settle()),
-        Call::Tick => Reply::One(Name::Tick, link.tick()),
+        Call::Settle => Reply::One("settle", link.settle()),
+        Call::Tick => Reply::One("tick", link.tick()),
         Call::Round => {
             let (sent, (heard, reply), settled) = link.round();
             Reply::Round(Round {
@@ -89,25 +97,23 @@ fn perform<F: Channel, B: Channel, R: RecordKind>(link: &mut Link<F, B, R>, call
                 settled,
             })
         }
-        Call::Spin(count) => {
-            for _ in 0..count {
-                let _ = link.offer(link.sender().in_hand);
-                let _ = link.round();
-            }
-            Reply::Observed(Name::Spin, link.observer())
-        }
-        Call::Handover => {
-            link.handover();
-            Reply::One(Name::Handover, Ok(()))
-        }
     }
+}
+
+// So many times an offer of the record in hand, and a round.
+fn spin<F: Channel, B: Channel, R: RecordKind>(link: &mut Link<F, B, R>, count: u16) -> Reply {
+    for _ in 0..count {
+        let _ = link.offer(link.sender().in_hand);
+        let _ = link.round();
+    }
+    Reply::Observed("spin", link.observer())
 }
 
 fn look<F: Channel, B: Channel, R: RecordKind>(link: &Link<F, B, R>, question: Question) -> Reply {
     match question {
-        Question::Check => Reply::One(Name::Check, link.check()),
+        Question::Check => Reply::One("check", link.check()),
         Question::Clean => Reply::Clean(link.is_clean()),
-        Question::Observer => Reply::Observed(Name::Observer, link.observer()),
+        Question::Observer => Reply::Observed("observer", link.observer()),
         Question::Ends => Reply::Ends(ends_of(link)),
     }
 }

@@ -1,7 +1,8 @@
 // What a line of the lab asks for.
 pub mod parse;
 
-use link::State;
+use link::{Call, State};
+use script::Kind;
 
 // Which of a link's channels.
 #[derive(Clone, Copy)]
@@ -18,12 +19,6 @@ pub enum Pair {
     DelayLines,
     Relays,
     LossOverRelay,
-}
-
-#[derive(Clone, Copy)]
-pub enum Kind {
-    Commands,
-    Readings,
 }
 
 // What a channel of the pair is made with: two patterns, two sizes, and two more sizes that are mostly delays.
@@ -55,26 +50,13 @@ pub enum OnChannel {
     Discard,
 }
 
-// What a line sets at the ends; a record by its payload.
+// What a line sets at the ends. It is no fault of the link's own type, since a record comes by its payload, which may be none.
 #[derive(Clone, Copy)]
 pub enum Fault {
     SenderLabel(u8),
     ReceiverLabel(u8),
     State(State),
     Hand(u64),
-}
-
-// The calls of a link, and offers with rounds in a row.
-#[derive(Clone, Copy)]
-pub enum Call {
-    Offer(u64),
-    Send,
-    Hear,
-    Settle,
-    Tick,
-    Round,
-    Spin(u16),
-    Handover,
 }
 
 // What can be read of a link.
@@ -91,7 +73,11 @@ pub enum Question {
 pub enum Order {
     Channel(Side, OnChannel),
     Fault(Fault),
-    Call(Call),
+    // an offer by its payload
+    Call(Call<u64>),
+    // so many offers and rounds in a row
+    Spin(u16),
+    Handover,
     Question(Question),
 }
 

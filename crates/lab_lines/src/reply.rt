@@ -1,10 +1,10 @@
 // What a line of the lab is answered, as text.
-ghost use Rattle.std.specs.Prelude.{◌≡◌};
-ghost use Rattle.wire.specs.Refusals.{answer_of};
+ghost use Rattle.std.specs.Prelude.{Some};
+ghost use Rattle.lab_lines.specs.Replies.{round_text};
 
 use link::{Observer, State};
 use std::fmt;
-use wire::Refusal;
+use wire::{Refusal, answer_number};
 
 // What a channel answers when asked.
 #[derive(Clone, Copy)]
@@ -35,116 +35,52 @@ pub struct Round {
     pub settled: Result<(), Refusal>,
 }
 
-// The line that is answered.
-#[derive(Clone, Copy)]
-pub enum Name {
-    Link,
-    Put,
-    Discard,
-    Sender,
-    Receiver,
-    State,
-    Hand,
-    Offer,
-    Send,
-    Settle,
-    Tick,
-    Spin,
-    Check,
-    Observer,
-    Handover,
-}
-
-impl fmt::Display for Name {
-    fn fmt<W: fmt::Write>(&self, f: &mut fmt::Formatter<W>) -> fmt::Result {
-        let text = match *self {
-            Name::Link => "link",
-            Name::Put => "put",
-            Name::Discard => "discard",
-            Name::Sender => "sender",
-            Name::Receiver => "receiver",
-            Name::State => "state",
-            Name::Hand => "hand",
-            Name::Offer => "offer",
-            Name::Send => "send",
-            Name::Settle => "settle",
-            Name::Tick => "tick",
-            Name::Spin => "spin",
-            Name::Check => "check",
-            Name::Observer => "observer",
-            Name::Handover => "handover",
-        };
-        f.write_str(text)
-    }
-}
-
 #[derive(Clone, Copy)]
 pub enum Reply {
-    // what a call answered
-    One(Name, Result<(), Refusal>),
+    // what a call answered, under the name of its line
+    One(&'static str, Result<(), Refusal>),
     Ask(Questions),
     Peek(Result<u64, Refusal>),
     // what was heard, and what the reply's put answered
     Hear(Result<(), Refusal>, Result<(), Refusal>),
     Round(Round),
     Clean(bool),
-    // the observer's numbers
-    Observed(Name, Observer),
+    // the observer's numbers, under the name of the line
+    Observed(&'static str, Observer),
     Ends(Ends),
     // a line of no listed form
     Unknown,
 }
 
-// An answer as a number: 0 is done.
-fn number(answer: Result<(), Refusal>) -> u8
-    ensures { result ≡ answer_of answer }
-{
-    match answer {
-        Ok(()) => 0,
-        Err(refusal) => refusal.number(),
-    }
-}
-
 impl fmt::Display for Questions {
     fn fmt<W: fmt::Write>(&self, f: &mut fmt::Formatter<W>) -> fmt::Result {
-        let Questions {
-            capacity,
-            delay,
-            losses,
-            load,
-            open,
-        } = *self;
-        let open = if open { 1u8 } else { 0 };
-        write!(f, "ask {capacity} {delay} {losses} {load} {open}")
+        write!(f, "ask {} {} {}", self.capacity, self.delay, self.losses)?;
+        write!(f, " {} {}", self.load, self.open as u8)
     }
 }
 
 impl fmt::Display for Round {
+    ghost output = { λ r. Some (round_text r) };
+
     fn fmt<W: fmt::Write>(&self, f: &mut fmt::Formatter<W>) -> fmt::Result {
-        let sent = number(self.sent);
-        let heard = number(self.heard);
-        let reply = number(self.reply);
-        let settled = number(self.settled);
-        write!(f, "round {sent} {heard} {reply} {settled}")
+        write!(
+            f,
+            "round {} {} {} {}",
+            answer_number(&self.sent),
+            answer_number(&self.heard),
+            answer_number(&self.reply),
+            answer_number(&self.settled)
+        )
     }
 }
 
 impl fmt::Display for Ends {
     fn fmt<W: fmt::Write>(&self, f: &mut fmt::Formatter<W>) -> fmt::Result {
-        let Ends {
-            sender,
-            state,
-            in_hand,
-            receiver,
-            delivered,
-        } = *self;
-        let state = match state {
-            State::Idle => 0u8,
-            State::UnderWay => 1,
-        };
+        write!(f, "ends {} {}", self.sender, self.state as u8)?;
         write!(
             f,
-            "ends {sender} {state} {in_hand:09X} {receiver} {delivered:09X}"
+            " {:09X} {} {:09X}",
+            self.in_hand, self.receiver, self.delivered
         )
     }
 }
@@ -152,31 +88,19 @@ impl fmt::Display for Ends {
 impl fmt::Display for Reply {
     fn fmt<W: fmt::Write>(&self, f: &mut fmt::Formatter<W>) -> fmt::Result {
         match *self {
-            Reply::One(name, answer) => {
-                let n = number(answer);
-                write!(f, "{name} {n}")
-            }
+            Reply::One(name, answer) => write!(f, "{name} {}", answer_number(&answer)),
             Reply::Ask(questions) => write!(f, "{questions}"),
             Reply::Peek(Ok(word)) => write!(f, "peek 0 {word:016X}"),
-            Reply::Peek(Err(refusal)) => {
-                let n = refusal.number();
-                write!(f, "peek {n}")
-            }
-            Reply::Hear(heard, reply) => {
-                let n = number(heard);
-                let m = number(reply);
-                write!(f, "hear {n} {m}")
-            }
+            Reply::Peek(Err(refusal)) => write!(f, "peek {}", refusal.number()),
+            Reply::Hear(heard, reply) => write!(
+                f,
+                "hear {} {}",
+                answer_number(&heard),
+                answer_number(&reply)
+            ),
             Reply::Round(round) => write!(f, "{round}"),
-            Reply::Clean(clean) => {
-                let n = clean as u8;
-                write!(f, "clean {n}")
-            }
-            Reply::Observed(name, seen) => {
-                let completed = seen.completed;
-                let first = seen.first;
-                write!(f, "{name} {completed} {first}")
-            }
+            Reply::Clean(clean) => write!(f, "clean {}", clean as u8),
+            Reply::Observed(name, seen) => write!(f, "{name} {} {}", seen.completed, seen.first),
             Reply::Ends(ends) => write!(f, "{ends}"),
             Reply::Unknown => write!(f, "? 12"),
         }

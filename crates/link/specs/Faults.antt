@@ -7,6 +7,8 @@ use Rattle.recovery.specs.State.{LinkState}
 use Rattle.ends.specs.Observers.{unobserved, after_fault}
 use Rattle.ends.specs.declared.receiver.Receiver.{Receiver}
 use Rattle.ends.specs.declared.sender.Sender.{Sender}
+use Rattle.link.specs.declared.calls.Fault.{Fault}
+use Rattle.link.specs.declared.calls.Fault.TheVariants as fault
 
 -- what a take answers to one who lets the word go
 abbrev pub without_word : Result ℕ Refusal → Answer
@@ -41,3 +43,14 @@ module _ {Config Rec F B : Type 0} where
 
   abbrev pub DiscardBack : Behaviour B → LinkState Config Rec F B → Answer → LinkState Config Rec F B → Type 0
   DiscardBack Y l a m = ((t : Result ℕ Refusal) × Y.takes l.back t m.back × (a ≡ without_word t)) × (m ≡ with_back l m.back a)
+
+  -- What the fault call that a value stands for answers and leaves.
+  abbrev pub Inflicted : Behaviour F → Behaviour B → LinkState Config Rec F B → Fault Rec → Answer → LinkState Config Rec F B → Type 0
+  Inflicted X Y l (fault.SenderLabel x) a m = (a ≡ Ok tt) × (m ≡ with_sender l (record { label = x; state = l.sender.state; in_hand = l.sender.in_hand }))
+  Inflicted X Y l (fault.ReceiverLabel x) a m = (a ≡ Ok tt) × (m ≡ with_receiver l (record { label = x; delivered = l.receiver.delivered }))
+  Inflicted X Y l (fault.SenderState s) a m = (a ≡ Ok tt) × (m ≡ with_sender l (record { label = l.sender.label; state = s; in_hand = l.sender.in_hand }))
+  Inflicted X Y l (fault.InHand r) a m = (a ≡ Ok tt) × (m ≡ with_sender l (record { label = l.sender.label; state = l.sender.state; in_hand = r }))
+  Inflicted X Y l (fault.PutForward w) a m = RawForward X l w a m
+  Inflicted X Y l (fault.PutBack w) a m = RawBack Y l w a m
+  Inflicted X Y l fault.DiscardForward a m = DiscardForward X l a m
+  Inflicted X Y l fault.DiscardBack a m = DiscardBack Y l a m

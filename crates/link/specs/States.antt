@@ -3,7 +3,7 @@ use Rattle.recovery.specs.State.{LinkState}
 use Rattle.codec.specs.declared.config.Config.{Config}
 use Rattle.link.specs.declared.state.Link.{Link}
 
-abbrev pub state_of : {F B R X Y Z : Type 0} → Link F B R X Y Z → LinkState (Config R) Z F B
+abbrev pub state_of : {F B R Rec : Type 0} → Link F B R Rec → LinkState (Config R) Rec F B
 state_of l = record {
   config = l.config;
   sender = l.sender;

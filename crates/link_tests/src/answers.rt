@@ -1,21 +1,20 @@
-use crate::steps::{Fault, Step, perform};
+use crate::steps::{Answer, DONE, Step, perform};
 use commands::{Command, Commands};
-use link::{Link, State};
+use link::{Fault, Link, State};
 use queues::Ring;
 use records::kind::RecordKind;
 use std::process::Abort;
 use std::test::Fail;
 use wire::{Refusal, Word};
 
-const DONE: Result<(), Refusal> = Ok(());
-
-const SILENT: Result<(), Refusal> = Err(Refusal::Silent);
+const SILENT: Answer = Err(Refusal::Silent);
 
 // The steps over two rings of these capacities with this many labels.
 fn over(rt: &impl Abort, forward: u16, back: u16, labels: u16, steps: &[Step]) -> Result<(), Fail> {
     let stop = Command::new(1, 0)?;
     let mut link = Link::new(Commands, labels, Ring::new(forward), Ring::new(back), stop);
-    perform(rt, &mut link, steps)
+    perform(rt, &mut link, steps);
+    Ok(())
 }
 
 // The word of a stop command under a label.
@@ -167,7 +166,8 @@ fn the_observer_stops(rt: HostRuntime) -> Result<(), Fail> {
             &rt,
             &mut link,
             &[Step::Offer(stop, DONE), Step::Round(DONE, DONE, DONE, DONE)],
-        )?;
+        );
     }
-    perform(&rt, &mut link, &[Step::Observed(65_535, 1)])
+    perform(&rt, &mut link, &[Step::Observed(65_535, 1)]);
+    Ok(())
 }

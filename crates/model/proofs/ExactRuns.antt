@@ -11,8 +11,8 @@ use Rattle.recovery.specs.Runs as runs
 use Rattle.recovery.specs.Runs.{Event, Run, in_offer, in_hear, in_settle}
 use Rattle.shapes.specs.Shapes.{Shape}
 use Rattle.shapes.specs.Moves.{Moves, shape_behaviour}
-use Rattle.model.specs.declared.calls.Call.{Call}
-use Rattle.model.specs.declared.calls.Call.TheVariants as calls
+use Rattle.link.specs.declared.calls.Call.{Call}
+use Rattle.link.specs.declared.calls.Call.TheVariants as calls
 use Rattle.model.specs.Models.{Model, shaped_state}
 use Rattle.model.specs.Calls.{hear_of}
 use Rattle.model.specs.Sequences.{after, after_all, offer_events, hear_events, settle_events, events, events_all}

@@ -12,8 +12,8 @@ use Rattle.ends.specs.declared.sender.State.{State}
 use Rattle.ends.specs.declared.sender.State.TheVariants.{Idle, UnderWay}
 use Rattle.shapes.specs.Shapes.{Shape, put, take}
 use Rattle.shapes.specs.Moves.{shape_behaviour}
-use Rattle.model.specs.declared.calls.Call.{Call}
-use Rattle.model.specs.declared.calls.Call.TheVariants as calls
+use Rattle.link.specs.declared.calls.Call.{Call}
+use Rattle.link.specs.declared.calls.Call.TheVariants as calls
 use Rattle.model.specs.Models.{Model, Turn, Hearing}
 use Rattle.model.specs.Calls.{offer_by, offer_of, send_by, send_of, hear_record, hear_word, hear_by, hear_of, settle_label, settle_word, settle_by, settle_of, tick_of, round_of}
 use Rattle.model.specs.Sequences.{after, events}

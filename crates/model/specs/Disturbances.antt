@@ -1,8 +1,8 @@
 -- Faults one after another on a link over shapes, computed. Assumes nothing.
 use Rattle.std.specs.Prelude.{List}
 use mathlib.Core.List.{foldl}
-use Rattle.model.specs.declared.calls.Fault.{Fault}
-use Rattle.model.specs.declared.calls.Fault.TheVariants.{SenderLabel, ReceiverLabel, SenderState, InHand, PutForward, PutBack, DiscardForward, DiscardBack}
+use Rattle.link.specs.declared.calls.Fault.{Fault}
+use Rattle.link.specs.declared.calls.Fault.TheVariants.{SenderLabel, ReceiverLabel, SenderState, InHand, PutForward, PutBack, DiscardForward, DiscardBack}
 use Rattle.model.specs.Models.{Model}
 use Rattle.model.specs.Faults.{sender_label_of, receiver_label_of, sender_state_of, in_hand_of, raw_forward_of, raw_back_of, discard_forward_of, discard_back_of}
 

@@ -21,7 +21,7 @@ shaped_state shapeF shapeB l = record {
 }
 
 -- a real link with the shapes of its channels
-abbrev pub model_of : {F B R X Y Z : Type 0} → (F → Shape) → (B → Shape) → Link F B R X Y Z → Model (Config R) Z
+abbrev pub model_of : {F B R Rec : Type 0} → (F → Shape) → (B → Shape) → Link F B R Rec → Model (Config R) Rec
 model_of shapeF shapeB l = shaped_state shapeF shapeB (state_of l)
 
 -- what a call answers, and the link afterwards

@@ -5,8 +5,8 @@ use Rattle.recovery.specs.Codec.{Codec}
 use Rattle.recovery.specs.Runs as runs
 use Rattle.recovery.specs.Runs.{Event, in_offer, in_hear, in_settle}
 use Rattle.shapes.specs.Moves.{shape_behaviour}
-use Rattle.model.specs.declared.calls.Call.{Call}
-use Rattle.model.specs.declared.calls.Call.TheVariants.{Offer, Send, Hear, Settle, Tick, Round}
+use Rattle.link.specs.declared.calls.Call.{Call}
+use Rattle.link.specs.declared.calls.Call.TheVariants.{Offer, Send, Hear, Settle, Tick, Round}
 use Rattle.model.specs.Models.{Model, Turn, Hearing}
 use Rattle.model.specs.Calls.{offer_of, send_of, hear_of, settle_of, tick_of, round_of}
 

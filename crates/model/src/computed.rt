@@ -4,13 +4,13 @@ ghost use Rattle.recovery.specs.Runs.{Run};
 ghost use Rattle.codec.specs.Words.{words_of};
 ghost use Rattle.channel.specs.Behaviours.{behaviour_of};
 ghost use Rattle.link.specs.States.{state_of};
-ghost use Rattle.model.specs.declared.calls.Call.TheVariants.{Offer, Send, Hear, Settle, Tick, Round};
+ghost use Rattle.link.specs.declared.calls.Call.TheVariants.{Offer, Send, Hear, Settle, Tick, Round};
 ghost use Rattle.model.specs.Models.{model_of};
 ghost use Rattle.model.specs.Calls.{offer_of, send_of, hear_of, settle_of, tick_of, round_of};
 ghost use Rattle.model.specs.Sequences.{events};
 
 use link::Link;
-use records::{Fixed, RecordKind};
+use records::RecordKind;
 use shapes::Shaped;
 use wire::Refusal;
 
@@ -19,18 +19,18 @@ pub fn offer<F: Shaped, B: Shaped, R: RecordKind>(
     link: &mut Link<F, B, R>,
     r: R::Record,
 ) -> Result<(), Refusal>
-    ensures answer { result ≡ (offer_of (words_of R.RecordKind R.Number.Fixed) (model_of F.Shaped.shape B.Shaped.shape link.old) r).answer }
-    ensures after { model_of F.Shaped.shape B.Shaped.shape link.new ≡ (offer_of (words_of R.RecordKind R.Number.Fixed) (model_of F.Shaped.shape B.Shaped.shape link.old) r).after }
-    ensures run { Run (words_of R.RecordKind R.Number.Fixed) (behaviour_of F.Channel) (behaviour_of B.Channel) (state_of link.old) (events (words_of R.RecordKind R.Number.Fixed) (model_of F.Shaped.shape B.Shaped.shape link.old) (Offer r)) (state_of link.new) }
+    ensures answer { result ≡ (offer_of (words_of R.RecordKind) (model_of F.Shaped.shape B.Shaped.shape link.old) r).answer }
+    ensures after { model_of F.Shaped.shape B.Shaped.shape link.new ≡ (offer_of (words_of R.RecordKind) (model_of F.Shaped.shape B.Shaped.shape link.old) r).after }
+    ensures run { Run (words_of R.RecordKind) (behaviour_of F.Channel) (behaviour_of B.Channel) (state_of link.old) (events (words_of R.RecordKind) (model_of F.Shaped.shape B.Shaped.shape link.old) (Offer r)) (state_of link.new) }
 {
     link.offer(r)
 }
 
 // Sends the record in hand.
 pub fn send<F: Shaped, B: Shaped, R: RecordKind>(link: &mut Link<F, B, R>) -> Result<(), Refusal>
-    ensures answer { result ≡ (send_of (words_of R.RecordKind R.Number.Fixed) (model_of F.Shaped.shape B.Shaped.shape link.old)).answer }
-    ensures after { model_of F.Shaped.shape B.Shaped.shape link.new ≡ (send_of (words_of R.RecordKind R.Number.Fixed) (model_of F.Shaped.shape B.Shaped.shape link.old)).after }
-    ensures run { Run (words_of R.RecordKind R.Number.Fixed) (behaviour_of F.Channel) (behaviour_of B.Channel) (state_of link.old) (events (words_of R.RecordKind R.Number.Fixed) (model_of F.Shaped.shape B.Shaped.shape link.old) Send) (state_of link.new) }
+    ensures answer { result ≡ (send_of (words_of R.RecordKind) (model_of F.Shaped.shape B.Shaped.shape link.old)).answer }
+    ensures after { model_of F.Shaped.shape B.Shaped.shape link.new ≡ (send_of (words_of R.RecordKind) (model_of F.Shaped.shape B.Shaped.shape link.old)).after }
+    ensures run { Run (words_of R.RecordKind) (behaviour_of F.Channel) (behaviour_of B.Channel) (state_of link.old) (events (words_of R.RecordKind) (model_of F.Shaped.shape B.Shaped.shape link.old) Send) (state_of link.new) }
 {
     link.send()
 }
@@ -39,28 +39,28 @@ pub fn send<F: Shaped, B: Shaped, R: RecordKind>(link: &mut Link<F, B, R>) -> Re
 pub fn hear<F: Shaped, B: Shaped, R: RecordKind>(
     link: &mut Link<F, B, R>,
 ) -> (Result<(), Refusal>, Result<(), Refusal>)
-    ensures heard { result.0 ≡ (hear_of (words_of R.RecordKind R.Number.Fixed) (model_of F.Shaped.shape B.Shaped.shape link.old)).heard }
-    ensures reply { result.1 ≡ (hear_of (words_of R.RecordKind R.Number.Fixed) (model_of F.Shaped.shape B.Shaped.shape link.old)).reply }
-    ensures after { model_of F.Shaped.shape B.Shaped.shape link.new ≡ (hear_of (words_of R.RecordKind R.Number.Fixed) (model_of F.Shaped.shape B.Shaped.shape link.old)).after }
-    ensures run { Run (words_of R.RecordKind R.Number.Fixed) (behaviour_of F.Channel) (behaviour_of B.Channel) (state_of link.old) (events (words_of R.RecordKind R.Number.Fixed) (model_of F.Shaped.shape B.Shaped.shape link.old) Hear) (state_of link.new) }
+    ensures heard { result.0 ≡ (hear_of (words_of R.RecordKind) (model_of F.Shaped.shape B.Shaped.shape link.old)).heard }
+    ensures reply { result.1 ≡ (hear_of (words_of R.RecordKind) (model_of F.Shaped.shape B.Shaped.shape link.old)).reply }
+    ensures after { model_of F.Shaped.shape B.Shaped.shape link.new ≡ (hear_of (words_of R.RecordKind) (model_of F.Shaped.shape B.Shaped.shape link.old)).after }
+    ensures run { Run (words_of R.RecordKind) (behaviour_of F.Channel) (behaviour_of B.Channel) (state_of link.old) (events (words_of R.RecordKind) (model_of F.Shaped.shape B.Shaped.shape link.old) Hear) (state_of link.new) }
 {
     link.hear()
 }
 
 // Settles an acknowledgement.
 pub fn settle<F: Shaped, B: Shaped, R: RecordKind>(link: &mut Link<F, B, R>) -> Result<(), Refusal>
-    ensures answer { result ≡ (settle_of (words_of R.RecordKind R.Number.Fixed) (model_of F.Shaped.shape B.Shaped.shape link.old)).answer }
-    ensures after { model_of F.Shaped.shape B.Shaped.shape link.new ≡ (settle_of (words_of R.RecordKind R.Number.Fixed) (model_of F.Shaped.shape B.Shaped.shape link.old)).after }
-    ensures run { Run (words_of R.RecordKind R.Number.Fixed) (behaviour_of F.Channel) (behaviour_of B.Channel) (state_of link.old) (events (words_of R.RecordKind R.Number.Fixed) (model_of F.Shaped.shape B.Shaped.shape link.old) Settle) (state_of link.new) }
+    ensures answer { result ≡ (settle_of (words_of R.RecordKind) (model_of F.Shaped.shape B.Shaped.shape link.old)).answer }
+    ensures after { model_of F.Shaped.shape B.Shaped.shape link.new ≡ (settle_of (words_of R.RecordKind) (model_of F.Shaped.shape B.Shaped.shape link.old)).after }
+    ensures run { Run (words_of R.RecordKind) (behaviour_of F.Channel) (behaviour_of B.Channel) (state_of link.old) (events (words_of R.RecordKind) (model_of F.Shaped.shape B.Shaped.shape link.old) Settle) (state_of link.new) }
 {
     link.settle()
 }
 
 // Ticks both channels.
 pub fn tick<F: Shaped, B: Shaped, R: RecordKind>(link: &mut Link<F, B, R>) -> Result<(), Refusal>
-    ensures answer { result ≡ (tick_of (words_of R.RecordKind R.Number.Fixed) (model_of F.Shaped.shape B.Shaped.shape link.old)).answer }
-    ensures after { model_of F.Shaped.shape B.Shaped.shape link.new ≡ (tick_of (words_of R.RecordKind R.Number.Fixed) (model_of F.Shaped.shape B.Shaped.shape link.old)).after }
-    ensures run { Run (words_of R.RecordKind R.Number.Fixed) (behaviour_of F.Channel) (behaviour_of B.Channel) (state_of link.old) (events (words_of R.RecordKind R.Number.Fixed) (model_of F.Shaped.shape B.Shaped.shape link.old) Tick) (state_of link.new) }
+    ensures answer { result ≡ (tick_of (words_of R.RecordKind) (model_of F.Shaped.shape B.Shaped.shape link.old)).answer }
+    ensures after { model_of F.Shaped.shape B.Shaped.shape link.new ≡ (tick_of (words_of R.RecordKind) (model_of F.Shaped.shape B.Shaped.shape link.old)).after }
+    ensures run { Run (words_of R.RecordKind) (behaviour_of F.Channel) (behaviour_of B.Channel) (state_of link.old) (events (words_of R.RecordKind) (model_of F.Shaped.shape B.Shaped.shape link.old) Tick) (state_of link.new) }
 {
     link.tick()
 }
@@ -73,12 +73,12 @@ pub fn round<F: Shaped, B: Shaped, R: RecordKind>(
     (Result<(), Refusal>, Result<(), Refusal>),
     Result<(), Refusal>,
 )
-    ensures sent { result.0 ≡ (round_of (words_of R.RecordKind R.Number.Fixed) (model_of F.Shaped.shape B.Shaped.shape link.old)).sent }
-    ensures heard { result.1.0 ≡ (round_of (words_of R.RecordKind R.Number.Fixed) (model_of F.Shaped.shape B.Shaped.shape link.old)).heard }
-    ensures reply { result.1.1 ≡ (round_of (words_of R.RecordKind R.Number.Fixed) (model_of F.Shaped.shape B.Shaped.shape link.old)).reply }
-    ensures settled { result.2 ≡ (round_of (words_of R.RecordKind R.Number.Fixed) (model_of F.Shaped.shape B.Shaped.shape link.old)).settled }
-    ensures after { model_of F.Shaped.shape B.Shaped.shape link.new ≡ (round_of (words_of R.RecordKind R.Number.Fixed) (model_of F.Shaped.shape B.Shaped.shape link.old)).after }
-    ensures run { Run (words_of R.RecordKind R.Number.Fixed) (behaviour_of F.Channel) (behaviour_of B.Channel) (state_of link.old) (events (words_of R.RecordKind R.Number.Fixed) (model_of F.Shaped.shape B.Shaped.shape link.old) Round) (state_of link.new) }
+    ensures sent { result.0 ≡ (round_of (words_of R.RecordKind) (model_of F.Shaped.shape B.Shaped.shape link.old)).sent }
+    ensures heard { result.1.0 ≡ (round_of (words_of R.RecordKind) (model_of F.Shaped.shape B.Shaped.shape link.old)).heard }
+    ensures reply { result.1.1 ≡ (round_of (words_of R.RecordKind) (model_of F.Shaped.shape B.Shaped.shape link.old)).reply }
+    ensures settled { result.2 ≡ (round_of (words_of R.RecordKind) (model_of F.Shaped.shape B.Shaped.shape link.old)).settled }
+    ensures after { model_of F.Shaped.shape B.Shaped.shape link.new ≡ (round_of (words_of R.RecordKind) (model_of F.Shaped.shape B.Shaped.shape link.old)).after }
+    ensures run { Run (words_of R.RecordKind) (behaviour_of F.Channel) (behaviour_of B.Channel) (state_of link.old) (events (words_of R.RecordKind) (model_of F.Shaped.shape B.Shaped.shape link.old) Round) (state_of link.new) }
 {
     link.round()
 }

@@ -3,9 +3,8 @@ ghost use Rattle.std.specs.Prelude.{◌≡◌};
 ghost use Rattle.model.specs.Models.{model_of};
 ghost use Rattle.model.specs.Disturbances.{disturbed, disturbed_all};
 
-use crate::calls::Fault;
 use crate::wire_faults::{discard_back, discard_forward, put_back, put_forward};
-use link::Link;
+use link::{Fault, Link};
 use records::RecordKind;
 use shapes::Shaped;
 

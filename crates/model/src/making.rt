@@ -11,7 +11,7 @@ ghost use Rattle.model.specs.Makings.{new_of};
 ghost use Rattle.model.specs.Faults.{handover_of};
 
 use link::Link;
-use records::{Fixed, RecordKind};
+use records::RecordKind;
 use shapes::Shaped;
 
 // A new link, with the same record at both ends.
@@ -30,7 +30,7 @@ pub fn make<F: Shaped, B: Shaped, R: RecordKind>(
 // The observer counts anew. A link past its check recovers from here.
 pub fn hand_over<F: Shaped, B: Shaped, R: RecordKind>(link: &mut Link<F, B, R>)
     ensures after { model_of F.Shaped.shape B.Shaped.shape link.new ≡ handover_of (model_of F.Shaped.shape B.Shaped.shape link.old) }
-    ensures recovers { checked_link (words_of R.RecordKind R.Number.Fixed) shape_behaviour shape_behaviour 256 (model_of F.Shaped.shape B.Shaped.shape link.new) ≡ Ok tt → Recovers (words_of R.RecordKind R.Number.Fixed) (behaviour_of F.Channel) (behaviour_of B.Channel) (state_of link.new) }
+    ensures recovers { checked_link (words_of R.RecordKind) shape_behaviour shape_behaviour 256 (model_of F.Shaped.shape B.Shaped.shape link.new) ≡ Ok tt → Recovers (words_of R.RecordKind) (behaviour_of F.Channel) (behaviour_of B.Channel) (state_of link.new) }
 {
     link.handover();
 }

@@ -7,16 +7,15 @@ ghost use Rattle.recovery.specs.Runs.{Run};
 ghost use Rattle.model.specs.Models.{model_of};
 ghost use Rattle.model.specs.Sequences.{after, after_all, events, events_all};
 
-use crate::calls::Call;
 use crate::computed::{hear, offer, round, send, settle, tick};
-use link::Link;
-use records::{Fixed, RecordKind};
+use link::{Call, Link};
+use records::RecordKind;
 use shapes::Shaped;
 
 // One call, whatever it answers: what it leaves, and the run that it is.
 pub fn perform<F: Shaped, B: Shaped, R: RecordKind>(link: &mut Link<F, B, R>, call: Call<R::Record>)
-    ensures after { model_of F.Shaped.shape B.Shaped.shape link.new ≡ after (words_of R.RecordKind R.Number.Fixed) (model_of F.Shaped.shape B.Shaped.shape link.old) call }
-    ensures run { Run (words_of R.RecordKind R.Number.Fixed) (behaviour_of F.Channel) (behaviour_of B.Channel) (state_of link.old) (events (words_of R.RecordKind R.Number.Fixed) (model_of F.Shaped.shape B.Shaped.shape link.old) call) (state_of link.new) }
+    ensures after { model_of F.Shaped.shape B.Shaped.shape link.new ≡ after (words_of R.RecordKind) (model_of F.Shaped.shape B.Shaped.shape link.old) call }
+    ensures run { Run (words_of R.RecordKind) (behaviour_of F.Channel) (behaviour_of B.Channel) (state_of link.old) (events (words_of R.RecordKind) (model_of F.Shaped.shape B.Shaped.shape link.old) call) (state_of link.new) }
 {
     match call {
         Call::Offer(r) => {
@@ -42,8 +41,8 @@ pub fn perform<F: Shaped, B: Shaped, R: RecordKind>(link: &mut Link<F, B, R>, ca
 
 // These calls, one after another: what they leave, and the run that they are.
 pub fn run<F: Shaped, B: Shaped, R: RecordKind>(link: &mut Link<F, B, R>, calls: &[Call<R::Record>])
-    ensures after { model_of F.Shaped.shape B.Shaped.shape link.new ≡ after_all (words_of R.RecordKind R.Number.Fixed) (model_of F.Shaped.shape B.Shaped.shape link.old) calls.now }
-    ensures run { Run (words_of R.RecordKind R.Number.Fixed) (behaviour_of F.Channel) (behaviour_of B.Channel) (state_of link.old) (events_all (words_of R.RecordKind R.Number.Fixed) (model_of F.Shaped.shape B.Shaped.shape link.old) calls.now) (state_of link.new) }
+    ensures after { model_of F.Shaped.shape B.Shaped.shape link.new ≡ after_all (words_of R.RecordKind) (model_of F.Shaped.shape B.Shaped.shape link.old) calls.now }
+    ensures run { Run (words_of R.RecordKind) (behaviour_of F.Channel) (behaviour_of B.Channel) (state_of link.old) (events_all (words_of R.RecordKind) (model_of F.Shaped.shape B.Shaped.shape link.old) calls.now) (state_of link.new) }
 {
     for call in calls {
         perform(link, *call);

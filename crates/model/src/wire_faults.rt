@@ -1,4 +1,5 @@
-// The fault calls on the channels of a link, where these have shapes: each answers and leaves what is computed of the shapes.
+// The fault calls on the channels of a link, where these have shapes: each answers and leaves what is computed of the shapes. Each
+// channel has calls of its own, as on the link.
 ghost use Rattle.std.specs.Prelude.{◌≡◌};
 ghost use Rattle.model.specs.Models.{model_of};
 ghost use Rattle.model.specs.Faults.{raw_forward_of, raw_back_of, discard_forward_of, discard_back_of};

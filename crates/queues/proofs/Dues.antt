@@ -1,28 +1,40 @@
--- Due numbers in a circular buffer: none is above the delay, and a tick lowers them all.
-use Rattle.std.proofs.Common.{◌≡◌, ℕ, zero, suc, ◌+◌, ◌-◌, ◌%◌, ◌≤◌, List, [], ◌∷◌, get_or, set, replicate, refl, ap₂, arith}
-use Rattle.queues.specs.Buffers.{window}
-use Rattle.queues.specs.Lines.{lowered}
+-- Words with due numbers: none is due later than the delay, and a tick lowers every due number. Assumes nothing.
+use Rattle.std.proofs.Common.{◌≡◌, ℕ, ◌+◌, ◌-◌, ◌≤◌, List, [], ◌∷◌, ◌++◌, map, All, take, drop, sym, refl, ap, ap₂, ◌∙◌, arith}
+use Rattle.std.proofs.lemmas.List.{take-map, drop-map, map-append}
+use Rattle.std.proofs.lemmas.List.Elements.{All-map, All-tail}
+use Rattle.queues.specs.declared.line.Timed.{Timed}
+use Rattle.queues.specs.Buffers.{window, rest}
+use Rattle.queues.specs.Lines.{sooner, dues_at, lowered}
 
-pub soon-none : (n delay place : ℕ) → get_or (replicate n 0) place 0 ≤ delay
-soon-none zero delay place = omega arith
-soon-none (suc n) delay zero = omega arith
-soon-none (suc n) delay (suc place) = soon-none n delay place
+-- what is done to each place is done to each item held
+pub window_map : {T U : Type 0} (f : T → U) (buffer : List T) (at n : ℕ) → window (map f buffer) at n ≡ map f (window buffer at n)
+window_map f buffer at n =
+    ap (take n) (ap₂ ◌++◌ (drop-map f at buffer) (take-map f at buffer) ∙ sym (map-append f (drop at buffer) (take at buffer)))
+    ∙ take-map f n (drop at buffer ++ take at buffer)
 
-pub soon-set : (due : List ℕ) (i delay : ℕ) → ((place : ℕ) → get_or due place 0 ≤ delay) → (place : ℕ) → get_or (set due i delay) place 0 ≤ delay
-soon-set [] i delay h place = h place
-soon-set (d ∷ ds) zero delay h zero = omega arith
-soon-set (d ∷ ds) zero delay h (suc place) = h (suc place)
-soon-set (d ∷ ds) (suc i) delay h zero = h 0
-soon-set (d ∷ ds) (suc i) delay h (suc place) = soon-set ds i delay (λ k. h (suc k)) place
+pub soon_rest : (latest : ℕ) (items : List Timed) → All (λ item. item.ready ≤ latest) items → All (λ item. item.ready ≤ latest) (rest items)
+soon_rest latest [] h = h
+soon_rest latest (item ∷ items) h = All-tail (λ (i : Timed). i.ready ≤ latest) item items h
 
-get_d_lowered : (due : List ℕ) (place : ℕ) → get_or (lowered due) place 0 ≡ get_or due place 0 - 1
-get_d_lowered [] place = refl
-get_d_lowered (d ∷ ds) zero = refl
-get_d_lowered (d ∷ ds) (suc place) = get_d_lowered ds place
+pub soon_later : (now delay : ℕ) (items : List Timed) → All (λ item. item.ready ≤ now + delay) items → All (λ item. item.ready ≤ now + 1 + delay) items
+soon_later now delay items h = λ k d below. omega (arith, h k d below)
 
-pub soon-lowered : (due : List ℕ) (delay : ℕ) → ((place : ℕ) → get_or due place 0 ≤ delay) → (place : ℕ) → get_or (lowered due) place 0 ≤ delay
-soon-lowered due delay h place = omega (arith, get_d_lowered due place, h place)
+pub dues_later : (now : ℕ) (items : List Timed) → dues_at (now + 1) items ≡ lowered (dues_at now items)
+dues_later now [] = refl
+dues_later now (item ∷ items) =
+    let one_less : item.ready - (now + 1) ≡ item.ready - now - 1 = omega arith in
+    ap₂ (λ due dues. due ∷ dues) one_less (dues_later now items)
 
-pub window-lowered : (due : List ℕ) (at n : ℕ) → window (lowered due) at n ≡ lowered (window due at n)
-window-lowered due at zero = refl
-window-lowered due at (suc n) = ap₂ (λ x xs. x ∷ xs) (get_d_lowered due (at % 64)) (window-lowered due (at + 1) n)
+-- where every word is made sooner by the count, the count begins again at 0
+pub soon_sooner : (now delay : ℕ) (items : List Timed) → All (λ item. item.ready ≤ now + delay) items → All (λ item. item.ready ≤ 0 + delay) (map (sooner now) items)
+soon_sooner now delay items h = All-map (λ (i : Timed). i.ready ≤ 0 + delay) (sooner now) items (λ k d below. omega (arith, h k d below))
+
+pub words_sooner : (ticks : ℕ) (items : List Timed) → map (λ item. item.word) (map (sooner ticks) items) ≡ map (λ item. item.word) items
+words_sooner ticks [] = refl
+words_sooner ticks (item ∷ items) = ap (λ xs. item.word ∷ xs) (words_sooner ticks items)
+
+pub dues_sooner : (now : ℕ) (items : List Timed) → dues_at 0 (map (sooner now) items) ≡ dues_at now items
+dues_sooner now [] = refl
+dues_sooner now (item ∷ items) =
+    let same : item.ready - now - 0 ≡ item.ready - now = omega arith in
+    ap₂ (λ due dues. due ∷ dues) same (dues_sooner now items)

@@ -1,69 +1,52 @@
--- Lists in circular buffers: reading a place, one more number at the end, and one less at the start.
-use Rattle.std.proofs.Common.{◌≡◌, ℕ, zero, suc, ◌+◌, ◌-◌, ◌%◌, ◌<◌, ◌≢◌, List, [], ◌∷◌, ◌++◌, length, get_or, set, Ok, refl, ap, ◌∙◌, arith}
-use Rattle.std.proofs.lemmas.List.{get_or-set_same, get_or-set_other}
-use Rattle.channel.specs.Meaning.{peeked}
-use Rattle.queues.specs.Buffers.{window, first, rest}
+-- Lists in circular buffers: one more item at the end, and one less at the start.
+use Rattle.std.proofs.Common.{◌≡◌, ℕ, ◌+◌, ◌-◌, ◌%◌, ◌<◌, ◌≤◌, List, [], ◌∷◌, ◌++◌, length, get_or, drop, set, sym, refl, ap, ◌∙◌, inl, inr, arith, length-drop, length-set, get_or-drop, get_or-take}
+use native.Mathlib.Nat.{mod-add-mod}
+use Rattle.std.proofs.lemmas.List.{same_lists, get_or_append_left, get_or-append_right}
+use Rattle.std.proofs.lemmas.Bool.{cases_lt}
+use Rattle.std.proofs.lemmas.Grind.{common_steps}
+use Rattle.queues.specs.Buffers.{window, rest}
+use Rattle.queues.specs.BufferRules.{length-window}
 
--- only the place modulo 64 counts
-pub window_same : (buffer : List ℕ) (a b n : ℕ) → a % 64 ≡ b % 64 → window buffer a n ≡ window buffer b n
-window_same buffer a b zero e = refl
-window_same buffer a b (suc n) e =
-    let f : (a + 1) % 64 ≡ (b + 1) % 64 = omega arith in
-    ap (λ i. get_or buffer i 0 ∷ window buffer (a + 1) n) e ∙ ap (λ xs. get_or buffer (b % 64) 0 ∷ xs) (window_same buffer (a + 1) (b + 1) n f)
+module _ {T : Type 0} (buffer : List T) (at n : ℕ) (sized : length buffer ≡ 64) (inside : at < 64) (most : n ≤ 64) where
+  -- the item at a position
+  get_or-window : (i : ℕ) (d : T) → i < n → get_or (window buffer at n) i d ≡ get_or buffer ((at + i) % 64) d
+  get_or-window i d below =
+      let length_tail = length-drop at buffer in
+      get_or-take n _ i d below ∙ elim (cases_lt (at + i) 64) [
+        | inl low ↦ get_or_append_left _ _ d i (omega arith) ∙ get_or-drop at buffer i d ∙ ap (λ j. get_or buffer j d) (omega arith)
+        | inr high ↦ get_or-append_right _ _ (64 - at) i d (omega arith) (omega arith) ∙ get_or-take at buffer _ d (omega arith) ∙ ap (λ j. get_or buffer j d) (omega arith)
+      ]
 
--- a write outside of the window changes nothing in it
-window-set-other : (buffer : List ℕ) (at n i x : ℕ) → ((k : ℕ) → k < n → (at + k) % 64 ≢ i) → window (set buffer i x) at n ≡ window buffer at n
-window-set-other buffer at zero i x h = refl
-window-set-other buffer at (suc n) i x h =
-    let here : at % 64 ≢ i = λ e. h 0 (omega arith) (omega arith) in
-    ap (λ v. v ∷ window (set buffer i x) (at + 1) n) (get_or-set_other buffer i (at % 64) x 0 here)
-    ∙ ap (λ xs. get_or buffer (at % 64) 0 ∷ xs) (window-set-other buffer (at + 1) n i x (λ k l e. h (k + 1) (omega arith) (omega arith)))
+rest-drop : {T : Type 0} (xs : List T) → rest xs ≡ drop 1 xs
+rest-drop [] = refl
+rest-drop (x ∷ xs) = refl
 
--- one place more at the end
-window_more : (buffer : List ℕ) (at n : ℕ) → window buffer at (n + 1) ≡ window buffer at n ++ (get_or buffer ((at + n) % 64) 0 ∷ [])
-window_more buffer at zero = let e : at % 64 ≡ (at + 0) % 64 = omega arith in ap (λ i. get_or buffer i 0 ∷ []) e
-window_more buffer at (suc n) =
-    let e : suc n + 1 ≡ suc (n + 1) = omega arith in
-    let f : (at + 1 + n) % 64 ≡ (at + suc n) % 64 = omega arith in
-    ap (window buffer at) e
-    ∙ ap (λ xs. get_or buffer (at % 64) 0 ∷ xs) (window_more buffer (at + 1) n)
-    ∙ ap (λ i. get_or buffer (at % 64) 0 ∷ (window buffer (at + 1) n ++ (get_or buffer i 0 ∷ []))) f
+module _ {T : Type 0} (buffer : List T) (at n : ℕ) (sized : length buffer ≡ 64) (inside : at < 64) (most : n ≤ 64) where
+  -- an item written behind the others
+  pub window_push : (x : T) → n < 64 → window (set buffer ((at + n) % 64) x) at (n + 1) ≡ window buffer at n ++ (x ∷ [])
+  window_push x room =
+      let written = set buffer ((at + n) % 64) x in
+      let sized_after = length-set buffer ((at + n) % 64) x ∙ sized in
+      let before : length (window buffer at n) ≡ n = omega (arith, length-window buffer at n) in
+      let after : length (window written at (n + 1)) ≡ n + 1 = omega (arith, length-window written at (n + 1)) in
+      same_lists _ _ (grind (arith, common_steps)) (λ i d below. grind (
+        arith,
+        common_steps,
+        get_or-window buffer at n sized inside most i d,
+        get_or-window written at (n + 1) sized_after inside (omega arith) i d,
+      ))
 
--- a number written behind the others
-pub window_push : (buffer : List ℕ) (at n x : ℕ) → length buffer ≡ 64 → n < 64 → window (set buffer ((at + n) % 64) x) at (n + 1) ≡ window buffer at n ++ (x ∷ [])
-window_push buffer at n x sized l =
-    let i = (at + n) % 64 in
-    let within : i < length buffer = omega arith in
-    window_more (set buffer i x) at n
-    ∙ ap (λ v. window (set buffer i x) at n ++ (v ∷ [])) (get_or-set_same buffer i x 0 within)
-    ∙ ap (λ xs. xs ++ (x ∷ [])) (window-set-other buffer at n i x (λ k h e. omega arith))
-
--- the number at the first place
-pub window-first : (buffer : List ℕ) (at n : ℕ) → 0 < n → first (window buffer at n) ≡ get_or buffer (at % 64) 0
-window-first buffer at zero l = absurd (omega arith)
-window-first buffer at (suc n) l = refl
-
--- the window without its first place
-pub window-rest : (buffer : List ℕ) (at n : ℕ) → 0 < n → window buffer ((at + 1) % 64) (n - 1) ≡ rest (window buffer at n)
-window-rest buffer at zero l = absurd (omega arith)
-window-rest buffer at (suc n) l =
-    let f : suc n - 1 ≡ n = omega arith in
-    let s : ((at + 1) % 64) % 64 ≡ (at + 1) % 64 = omega arith in
-    ap (window buffer ((at + 1) % 64)) f ∙ window_same buffer _ _ n s
-
--- looking at a position
-pub peeked-window : (buffer : List ℕ) (at n k : ℕ) → k < n → peeked (window buffer at n) k ≡ Ok (get_or buffer ((at + k) % 64) 0)
-peeked-window buffer at zero k h = absurd (omega arith)
-peeked-window buffer at (suc n) zero h = let e : at % 64 ≡ (at + 0) % 64 = omega arith in ap (λ i. Ok (get_or buffer i 0)) e
-peeked-window buffer at (suc n) (suc k) h =
-    let e : (at + 1 + k) % 64 ≡ (at + suc k) % 64 = omega arith in
-    peeked-window buffer (at + 1) n k (omega arith) ∙ ap (λ i. Ok (get_or buffer i 0)) e
-
--- windows of equal buffers, places and lengths
-pub window-by : (xs ys : List ℕ) (a b m n : ℕ) → xs ≡ ys → a ≡ b → m ≡ n → window xs a m ≡ window ys b n
-window-by xs ys a b m n e f g = ap (λ v. window v a m) e ∙ ap (λ v. window ys v m) f ∙ ap (window ys b) g
-
--- beside an empty window stands an empty one
-pub window-none : (xs ys : List ℕ) (a b n : ℕ) → window xs a n ≡ [] → window ys b n ≡ []
-window-none xs ys a b zero e = refl
-window-none xs ys a b (suc n) e = absurd (omega (arith, ap length e))
+  -- the window without its first item
+  pub window_pop : window buffer ((at + 1) % 64) (n - 1) ≡ rest (window buffer at n)
+  window_pop =
+      let before : length (window buffer at n) ≡ n = omega (arith, length-window buffer at n) in
+      let after : length (window buffer ((at + 1) % 64) (n - 1)) ≡ n - 1 = omega (arith, length-window buffer ((at + 1) % 64) (n - 1)) in
+      let step : window buffer ((at + 1) % 64) (n - 1) ≡ drop 1 (window buffer at n) = same_lists _ _ (simp length-drop (omega arith)) (λ i d below. grind (
+        arith,
+        length-drop 1 (window buffer at n),
+        get_or-drop 1 (window buffer at n) i d,
+        mod-add-mod (at + 1) 64 i,
+        get_or-window buffer at n sized inside most (1 + i) d,
+        get_or-window buffer ((at + 1) % 64) (n - 1) sized (omega arith) (omega arith) i d,
+      )) in
+      step ∙ sym (rest-drop (window buffer at n))

@@ -1,17 +1,21 @@
 -- Lists in circular buffers of 64 places. Assumes nothing.
-use Rattle.std.specs.Prelude.{ℕ, zero, suc, ◌+◌, ◌%◌, List, [], ◌∷◌, slice_index}
+use Rattle.std.specs.Prelude.{ℕ, List, [], ◌∷◌, ◌++◌, take, drop}
+use Rattle.queues.specs.declared.queue.Queue.{Queue}
 
--- so many numbers of a buffer from a place on; after the last place comes the first
-abbrev pub window : List ℕ → ℕ → ℕ → List ℕ
-window buffer at zero = []
-window buffer at (suc n) = slice_index buffer (at % 64) ∷ window buffer (at + 1) n
+-- so many items of a buffer from a place on; after the last place comes the first
+abbrev pub window : {T : Type 0} → List T → ℕ → ℕ → List T
+window buffer at n = take n (drop at buffer ++ take at buffer)
 
--- the first of a list, or 0 where there is none
+-- the items that a queue holds, the oldest first
+abbrev pub held : {T : Type 0} → Queue T → List T
+held q = window q.items q.head q.load
+
+-- the first of a list of numbers, or 0 where there is none
 abbrev pub first : List ℕ → ℕ
 first [] = 0
 first (x ∷ xs) = x
 
 -- a list without its first
-abbrev pub rest : List ℕ → List ℕ
+abbrev pub rest : {T : Type 0} → List T → List T
 rest [] = []
 rest (x ∷ xs) = xs

@@ -1,7 +1,8 @@
 -- A delay line keeps the channel rules. Assumes nothing.
-use Rattle.std.specs.Prelude.{◌≡◌, ℕ, zero, suc, ◌+◌, ◌-◌, ◌%◌, ◌<◌, ◌≤◌, Bool, true, false, ◌⊎◌, List, [], ◌∷◌, ◌++◌, length, Result, ◌==◌, ◌≢◌, nat_lt, slice_index, refl}
+use Rattle.std.specs.Prelude.{◌≡◌, ℕ, ◌+◌, ◌-◌, ◌<◌, ◌≤◌, Bool, true, false, ◌⊎◌, List, [], ◌∷◌, ◌++◌, length, All, Result, ◌==◌, ◌≢◌, nat_lt, refl}
 use Rattle.std.proofs.Common.{sym, ap, ap₂, subst, subst₂, ◌∙◌, inl, inr, arith, ltb-true, ltb-false, lt-ltb, le-ltb, eqb-true}
-use Rattle.std.proofs.lemmas.List.{nil_from_length}
+use Rattle.std.proofs.lemmas.List.{length-map, nil_from_length}
+use Rattle.std.proofs.lemmas.List.Elements.{All-head}
 use Rattle.std.proofs.lemmas.Bool.{and_parts, and_cases, eqb-false}
 use Rattle.wire.specs.Refusals.{Answer}
 use Rattle.wire.specs.declared.refusal.Refusal.{Refusal}
@@ -10,13 +11,14 @@ use Rattle.channel.specs.Rules.{Put, Take, Tick, ChannelRules}
 use Rattle.channel.specs.Sublists.{sublist_same}
 use Rattle.channel.specs.WaitRules.{wait-counted}
 use Rattle.queues.specs.declared.line.DelayLine.{DelayLine}
-use Rattle.queues.specs.Buffers.{window, first}
-use Rattle.queues.specs.BufferRules.{length-window, first_rest}
-use Rattle.queues.specs.Lines.{line_words, line_dues, line_meaning, line_means, lowered, LinePut, line_ready, LineTake, SameLine, line_behaviour}
+use Rattle.queues.specs.declared.line.Timed.{Timed}
+use Rattle.queues.specs.Buffers.{held, first}
+use Rattle.queues.specs.BufferRules.{held_within, first_rest}
+use Rattle.queues.specs.Lines.{line_words, dues_at, line_dues, line_meaning, line_means, lowered, LinePut, line_ready, LineTake, SameLine, line_behaviour}
 
-first_below : (dues : List ℕ) (at n delay : ℕ) → ((place : ℕ) → slice_index dues place ≤ delay) → first (window dues at n) ≤ delay
-first_below dues at zero delay h = omega arith
-first_below dues at (suc n) delay h = h (at % 64)
+first_below : (now delay : ℕ) (items : List Timed) → All (λ item. item.ready ≤ now + delay) items → first (dues_at now items) ≤ delay
+first_below now delay [] h = omega arith
+first_below now delay (item ∷ items) h = omega (arith, All-head (λ (i : Timed). i.ready ≤ now + delay) item items h)
 
 first-none : (dues : List ℕ) → length dues ≡ 0 → first dues ≡ 0
 first-none [] e = refl
@@ -41,13 +43,12 @@ line-stands words dues capacity delay least within same soon = record {
 }
 
 numbered : (s : DelayLine) → length (line_dues s) ≡ length (line_words s)
-numbered s = length-window s.due s.queue.head s.queue.load ∙ sym (length-window s.queue.words s.queue.head s.queue.load)
+numbered s = length-map (held s.queue) (λ item. item.ready - s.ticks) ∙ sym (length-map (held s.queue) (λ item. item.word))
 
 line-standing : (s : DelayLine) → Standing (line_means s)
 line-standing s =
-    let q = s.queue in
-    line-stands (line_words s) (line_dues s) q.capacity s.delay q.least (omega (arith, length-window q.words q.head q.load, q.within)) (numbered s)
-    (first_below s.due q.head q.load s.delay s.soon)
+    line-stands (line_words s) (line_dues s) s.queue.capacity s.delay s.queue.least (omega (arith, length-map (held s.queue) (λ item. item.word), held_within s.queue)) (numbered s)
+    (first_below s.ticks s.delay (held s.queue) s.soon)
 
 -- words and due numbers after a call, at the same capacity and delay
 module _ (words dues : List ℕ) (capacity delay : ℕ) (words' dues' : List ℕ) where

@@ -5,8 +5,9 @@ use Rattle.wire.specs.declared.refusal.Refusal.{Refusal}
 use Rattle.wire.specs.declared.refusal.Refusal.TheVariants.{Full, Silent}
 use Rattle.channel.specs.Meaning.{Meaning, Behaviour}
 use Rattle.queues.specs.declared.line.DelayLine.{DelayLine}
-use Rattle.queues.specs.Buffers.{window, first, rest}
-use Rattle.queues.specs.Rings.{ring_fits, ring_words}
+use Rattle.queues.specs.declared.line.Timed.{Timed}
+use Rattle.queues.specs.Buffers.{held, first, rest}
+use Rattle.queues.specs.Rings.{ring_fits}
 
 -- the capacities and delays that a line can have
 abbrev pub line_fits : ℕ → ℕ → Bool
@@ -19,16 +20,24 @@ line_capacity capacity delay = cond (line_fits capacity delay) capacity 1
 abbrev pub line_delay : ℕ → ℕ → ℕ
 line_delay capacity delay = cond (line_fits capacity delay) delay 0
 
--- the words that a line holds, the oldest first, and the due number of each
+-- the words that a line holds, the oldest first
 abbrev pub line_words : DelayLine → List ℕ
-line_words s = ring_words s.queue
+line_words s = map (λ item. item.word) (held s.queue)
+
+-- their due numbers at a count of ticks: how many ticks more each word waits
+abbrev pub dues_at : ℕ → List Timed → List ℕ
+dues_at now items = map (λ item. item.ready - now) items
 
 abbrev pub line_dues : DelayLine → List ℕ
-line_dues s = window s.due s.queue.head s.queue.load
+line_dues s = dues_at s.ticks (held s.queue)
 
 -- every due number above 0 falls by one
 abbrev pub lowered : List ℕ → List ℕ
 lowered = map (λ due. due - 1)
+
+-- the word so many ticks sooner
+abbrev pub sooner : ℕ → Timed → Timed
+sooner ticks item = record { word = item.word; ready = item.ready - ticks }
 
 -- a line by its words, their due numbers, its capacity and its delay
 abbrev pub line_meaning : List ℕ → List ℕ → ℕ → ℕ → Meaning

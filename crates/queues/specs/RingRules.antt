@@ -9,7 +9,7 @@ use Rattle.channel.specs.Rules.{Put, Take, Tick, ChannelRules}
 use Rattle.channel.specs.Sublists.{sublist_same}
 use Rattle.queues.specs.declared.ring.Ring.{Ring}
 use Rattle.queues.specs.Buffers.{first}
-use Rattle.queues.specs.BufferRules.{length-window, first_rest}
+use Rattle.queues.specs.BufferRules.{held_within, first_rest}
 use Rattle.queues.specs.Rings.{ring_words, ring_meaning, ring_means, RingPut, RingTake, ring_behaviour}
 
 pub ring-stands : (words : List ℕ) (capacity : ℕ) → 1 ≤ capacity → length words ≤ capacity → Standing (ring_meaning words capacity)
@@ -23,7 +23,7 @@ ring-stands words capacity least within = record {
 }
 
 ring-standing : (s : Ring) → Standing (ring_means s)
-ring-standing s = ring-stands (ring_words s) s.capacity s.least (omega (arith, length-window s.words s.head s.load, s.within))
+ring-standing s = ring-stands (ring_words s) s.queue.capacity s.queue.least (held_within s.queue)
 
 pub ring-put : (words : List ℕ) (capacity : ℕ) (b : Bool) (w : ℕ) (r : Answer) (words' : List ℕ) → nat_lt (length words) capacity ≡ b → RingPut b words w r words' → Put (ring_meaning words capacity) w r (ring_meaning words' capacity)
 ring-put words capacity true w r words' e h =
@@ -57,7 +57,7 @@ ring-tick words capacity words' e = record {
 pub ring_rules : ChannelRules ring_behaviour
 ring_rules = record {
   standing = ring-standing;
-  put = λ s w r t h. subst (λ c. Put (ring_means s) w r (ring_meaning (ring_words t) c)) (sym h.1) (ring-put (ring_words s) s.capacity _ w r (ring_words t) refl h.0);
-  take = λ s r t h. subst (λ c. Take (ring_means s) r (ring_meaning (ring_words t) c)) (sym h.1) (ring-take (ring_words s) s.capacity _ r (ring_words t) refl h.0);
-  tick = λ s t h. subst (λ c. Tick (ring_means s) (ring_meaning (ring_words t) c)) (sym h.1) (ring-tick (ring_words s) s.capacity (ring_words t) h.0);
+  put = λ s w r t h. subst (λ c. Put (ring_means s) w r (ring_meaning (ring_words t) c)) (sym h.1) (ring-put (ring_words s) s.queue.capacity _ w r (ring_words t) refl h.0);
+  take = λ s r t h. subst (λ c. Take (ring_means s) r (ring_meaning (ring_words t) c)) (sym h.1) (ring-take (ring_words s) s.queue.capacity _ r (ring_words t) refl h.0);
+  tick = λ s t h. subst (λ c. Tick (ring_means s) (ring_meaning (ring_words t) c)) (sym h.1) (ring-tick (ring_words s) s.queue.capacity (ring_words t) h.0);
 }

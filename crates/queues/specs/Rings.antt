@@ -5,7 +5,7 @@ use Rattle.wire.specs.declared.refusal.Refusal.{Refusal}
 use Rattle.wire.specs.declared.refusal.Refusal.TheVariants.{Full, Silent}
 use Rattle.channel.specs.Meaning.{Meaning, Behaviour}
 use Rattle.queues.specs.declared.ring.Ring.{Ring}
-use Rattle.queues.specs.Buffers.{window, first, rest}
+use Rattle.queues.specs.Buffers.{held, first, rest}
 
 -- the capacities that a ring can have
 abbrev pub ring_fits : ℕ → Bool
@@ -17,14 +17,14 @@ ring_capacity asked = cond (ring_fits asked) asked 1
 
 -- the words that a ring holds, the oldest first
 abbrev pub ring_words : Ring → List ℕ
-ring_words s = window s.words s.head s.load
+ring_words s = held s.queue
 
 -- a ring by its words and its capacity
 abbrev pub ring_meaning : List ℕ → ℕ → Meaning
 ring_meaning words capacity = record { contents = words; capacity = capacity; delay = 0; wait = 0; losses = 0; is_open = nat_lt (length words) capacity }
 
 abbrev pub ring_means : Ring → Meaning
-ring_means s = ring_meaning (ring_words s) s.capacity
+ring_means s = ring_meaning (ring_words s) s.queue.capacity
 
 -- A put, by whether there is room: the words before, the word, the answer, and the words after.
 abbrev pub RingPut : Bool → List ℕ → ℕ → Answer → List ℕ → Type 0
@@ -40,7 +40,7 @@ RingTake false words r words' = (r ≡ Err Silent) × (words' ≡ words)
 abbrev pub ring_behaviour : Behaviour Ring
 ring_behaviour = record {
   means = ring_means;
-  puts = λ s w r t. RingPut (ring_means s).is_open (ring_words s) w r (ring_words t) × (t.capacity ≡ s.capacity);
-  takes = λ s r t. RingTake (nat_lt 0 (length (ring_words s))) (ring_words s) r (ring_words t) × (t.capacity ≡ s.capacity);
-  ticks = λ s t. (ring_words t ≡ ring_words s) × (t.capacity ≡ s.capacity);
+  puts = λ s w r t. RingPut (ring_means s).is_open (ring_words s) w r (ring_words t) × (t.queue.capacity ≡ s.queue.capacity);
+  takes = λ s r t. RingTake (nat_lt 0 (length (ring_words s))) (ring_words s) r (ring_words t) × (t.queue.capacity ≡ s.queue.capacity);
+  ticks = λ s t. (ring_words t ≡ ring_words s) × (t.queue.capacity ≡ s.queue.capacity);
 }

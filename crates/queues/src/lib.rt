@@ -2,6 +2,7 @@
 #![tactic(auto)]
 
 pub mod line;
+mod queue;
 pub mod ring;
 
 pub use line::DelayLine;

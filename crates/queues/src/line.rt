@@ -1,17 +1,25 @@
-ghost use Rattle.std.specs.Prelude.{ℕ, ◌≤◌, slice_index};
+ghost use Rattle.std.specs.Prelude.{◌+◌, ◌≤◌, All};
+ghost use Rattle.queues.specs.Buffers.{held};
 
-use crate::ring::Ring;
+use crate::queue::Queue;
 
 pub mod calls;
-mod queue;
+mod ticks;
 
-// A ring whose words have due numbers: the number of the word at a place of the ring stands at that place of `due`.
-// A word comes out once its number has fallen to 0.
+// A word, and the tick from which on it comes out.
+#[derive(Clone, Copy, Default)]
+struct Timed {
+    word: u64,
+    ready: u16,
+}
+
+// A queue of words, and the count of the ticks: a word comes out once the count has reached its own.
 #[derive(Drop)]
 pub struct DelayLine {
-    queue: Ring,
-    due: [u8; 64],
-    delay: u8,
+    queue: Queue<Timed>,
+    ticks: u16,
+    delay: u16,
     ghost limited: { delay ≤ 15 },
-    ghost soon: { (place : ℕ) → slice_index due place ≤ delay },
+    ghost countable: { ticks ≤ 65520 },
+    ghost soon: { All (λ item. item.ready ≤ ticks + delay) (held queue) },
 }

@@ -5,11 +5,11 @@ pub mod kind;
 pub mod text;
 pub mod values;
 
-// The side of an axle that a reading was taken on.
+// The side of an axle that a reading was taken on, by the bit that stands for it in a payload.
 #[derive(Clone, Copy, PartialEq, Eq, Debug)]
 pub enum Side {
-    Left,
-    Right,
+    Left = 0,
+    Right = 1,
 }
 
 // One measurement at a wheel: axle 1 to 12, force in units of 10 newtons, pressure in hundredths of a bar.

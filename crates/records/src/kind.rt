@@ -1,26 +1,25 @@
 ghost use Rattle.std.specs.Prelude.{◌≡◌, ℕ, ◌^◌, ◌<◌, Some, Option};
 ghost use Rattle.records.specs.Kinds.{or_code};
 
-use crate::fixed::Fixed;
 use wire::Refusal;
 
 // A record kind: its number and letter, and how its records stand in 36 bits. The kind is a value that a link holds.
 pub trait RecordKind {
-    type Number: Fixed + Copy;
-
-    type Letter: Fixed + Copy;
-
-    const NUMBER: Self::Number;
-
-    const LETTER: Self::Letter;
-
     type Record: Copy;
+
+    ghost NUMBER: { ℕ };
+
+    ghost LETTER: { ℕ };
 
     // the payload of each record
     ghost payload: { Self → Self.Record → ℕ };
 
     // the record that each payload reads as, if it is one
     ghost reads: { Self → ℕ → Option Self.Record };
+
+    const NUMBER: u8;
+
+    const LETTER: u8;
 
     fn pack(&self, r: &Self::Record) -> u64
         ensures { result ≡ payload self.now r.now };
@@ -29,7 +28,7 @@ pub trait RecordKind {
     fn unpack(&self, p: u64) -> Result<Self::Record, Refusal>
         ensures { result ≡ or_code (reads self.now p) };
 
-    ghost numbered: { (0 < Self.Number.Fixed.worth) × (Self.Number.Fixed.worth < 16) };
+    ghost numbered: { (0 < NUMBER) × (NUMBER < 16) };
 
     ghost small: { (k : Self) (r : Self.Record) → payload k r < 2 ^ 36 };
 

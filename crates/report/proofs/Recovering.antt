@@ -27,8 +27,8 @@ use Rattle.codec.proofs.WordLaws.{word_laws}
 use Rattle.shapes.specs.Shapes.{Shape, means, put}
 use Rattle.shapes.specs.Moves.{shape_behaviour}
 use Rattle.shapes.proofs.Standing.{Stands, shape_rules, put_refused}
-use Rattle.model.specs.declared.calls.Call.{Call}
-use Rattle.model.specs.declared.calls.Call.TheVariants as calls
+use Rattle.link.specs.declared.calls.Call.{Call}
+use Rattle.link.specs.declared.calls.Call.TheVariants as calls
 use Rattle.model.specs.Models.{Model}
 use Rattle.model.specs.Faults.{sender_label_of, receiver_label_of}
 use Rattle.model.specs.Makings.{new_of}

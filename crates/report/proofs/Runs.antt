@@ -1,5 +1,5 @@
 -- A script, one line on. Assumes nothing.
-use Rattle.std.proofs.Common.{◌≡◌, ℕ, suc, ◌+◌, ◌*◌, ◌≤◌, Bool, true, false, cond, eqb, List, [], ◌∷◌, ◌++◌, length, Option, sym, refl, ap, ◌∙◌, ap₂, arith, length-append}
+use Rattle.std.proofs.Common.{◌≡◌, ℕ, suc, ◌+◌, ◌*◌, ◌≤◌, Bool, true, false, cond, eqb, List, [], ◌∷◌, ◌++◌, length, Option, sym, refl, ap, ◌∙◌, append_assoc, arith}
 use Rattle.ends.specs.declared.observer.Observer.{Observer}
 use Rattle.text.specs.Lines.{before, lines_of}
 use Rattle.codec.specs.declared.config.Config.{Config}
@@ -8,33 +8,28 @@ use Rattle.script.specs.Lines.{order_of}
 use Rattle.report.specs.declared.reply.Reply.{Reply}
 use Rattle.report.specs.declared.reply.Reply.TheVariants.{One, Hear, Round}
 use Rattle.report.specs.Lines.{Answered, outcome, answered, lines_text}
-use Rattle.report.specs.Pages.{written, Wrote}
+use Rattle.report.specs.declared.page.Page.{Page}
+use Rattle.report.specs.Pages.{HasRoom, Put}
 use Rattle.report.specs.Replies.{reply_text, reply_room, sound_text}
 use Rattle.report.specs.Rooms.{bytes_in}
-use Rattle.report.proofs.Writing.{then, renamed}
+use Rattle.report.proofs.Writing.{nothing, both, named}
 
--- what is left to write at a place is what was to be written from the start on
-pub record Left (page : List ℕ) (at : ℕ) (text : List ℕ) (first : List ℕ) (start : ℕ) (whole : List ℕ) : Type 0 where
-  pub same : written page at text ≡ written first start whole
-  pub ends : at + length text ≡ start + length whole
+-- a part of a text is put behind what a page held, and this is left of it
+pub record Partly (before now : Page) (left whole : List ℕ) : Type 0 where
+  pub done : List ℕ
+  pub put : Put before done now
+  pub text : done ++ left ≡ whole
 
-pub at_first : (page : List ℕ) (at : ℕ) (text : List ℕ) → Left page at text page at text
-at_first page at text = record { same = refl; ends = refl }
+pub at_first : (page : Page) (text : List ℕ) → HasRoom page 0 → Partly page page text text
+at_first page text h = record { done = []; put = nothing page h; text = refl }
 
--- a part of what is left is written
-part : {page next first : List ℕ} {at end start : ℕ} {whole : List ℕ} (s t : List ℕ) → Wrote page at s next end → Left page at (s ++ t) first start whole → Left next end t first start whole
-part {page} {next} {first} {at} {end} {start} {whole} s t w l = record {
-  same = ap₂ (λ p i. written p i t) w.page w.place ∙ then page at s t (omega (arith, w.within)) ∙ l.same;
-  ends = omega (arith, w.place, l.ends, length-append s t);
-}
+-- a part of what is left is put
+part : {before now next : Page} {whole : List ℕ} (s t : List ℕ) → Put now s next → Partly before now (s ++ t) whole → Partly before next t whole
+part s t w l = record { done = l.done ++ s; put = both l.put w; text = append_assoc l.done s t ∙ l.text }
 
--- all that is left is written
-pub whole-written : {page next first : List ℕ} {at end start : ℕ} {whole : List ℕ} (text : List ℕ) → length page ≡ length first → Wrote page at text next end → Left page at text first start whole → Wrote first start whole next end
-whole-written {page} {next} {first} {at} {end} {start} {whole} text long w l = record {
-  page = w.page ∙ l.same;
-  place = omega (arith, w.place, l.ends);
-  within = omega (arith, w.within, l.ends);
-}
+-- all that is left is put
+whole-put : {before now next : Page} {whole : List ℕ} (text : List ℕ) → Put now text next → Partly before now text whole → Put before whole next
+whole-put text w l = named _ _ l.text (both l.put w)
 
 reply-most : (r : Reply) → reply_room r ≤ 24
 reply-most (One letter a) = omega arith
@@ -47,20 +42,20 @@ module _ {R Rec : Type 0} (number : ℕ) (payload : R → Rec → ℕ) (reads : 
   reply-fits [] r l m e = let k = ap (λ (a : Answered R Rec). reply_room a.reply) e in omega arith
   reply-fits (c ∷ cs) r l m e = omega (arith, reply-most r)
 
-  pub line-more : {page next first : List ℕ} {at end start : ℕ} {whole : List ℕ} (line : List ℕ) (ls ms : List (List ℕ)) (r : Reply) (l m : Model (Config R) Rec)
-      → outcome r m ≡ answered number payload reads (order_of line) l → ls ≡ line ∷ ms → Wrote page at (reply_text r) next end
-      → Left page at (lines_text number payload reads l ls) first start whole → Left next end (lines_text number payload reads m ms) first start whole
-  line-more {page} {next} {first} {at} {end} {start} {whole} line ls ms r l m e split w left =
+  pub line-more : {before now next : Page} {whole : List ℕ} (line : List ℕ) (ls ms : List (List ℕ)) (r : Reply) (l m : Model (Config R) Rec)
+      → outcome r m ≡ answered number payload reads (order_of line) l → ls ≡ line ∷ ms → Put now (reply_text r) next
+      → Partly before now (lines_text number payload reads l ls) whole → Partly before next (lines_text number payload reads m ms) whole
+  line-more {before} {now} {next} {whole} line ls ms r l m e split w left =
       let text : lines_text number payload reads l ls ≡ reply_text r ++ lines_text number payload reads m ms =
       ap (lines_text number payload reads l) split ∙ ap (λ (a : Answered R Rec). reply_text a.reply ++ lines_text number payload reads a.after ms) (sym e) in
       part (reply_text r) (lines_text number payload reads m ms) w (rw text at left)
 
   -- no line is left: the last line of the report
-  pub last_line : {page next first : List ℕ} {at end start : ℕ} {whole : List ℕ} (ls : List (List ℕ)) (o : Observer) (l : Model (Config R) Rec) → length page ≡ length first
-      → ls ≡ [] → o ≡ l.observer → Wrote page at (sound_text o) next end → Left page at (lines_text number payload reads l ls) first start whole → Wrote first start whole next end
-  last_line ls o l long none e w left =
+  pub last_line : {before now next : Page} {whole : List ℕ} (ls : List (List ℕ)) (o : Observer) (l : Model (Config R) Rec)
+      → ls ≡ [] → o ≡ l.observer → Put now (sound_text o) next → Partly before now (lines_text number payload reads l ls) whole → Put before whole next
+  last_line ls o l none e w left =
       let text : sound_text o ≡ lines_text number payload reads l ls = ap sound_text e ∙ ap (lines_text number payload reads l) (sym none) in
-      whole-written (lines_text number payload reads l ls) long (renamed (sound_text o) (lines_text number payload reads l ls) text w) left
+      whole-put (lines_text number payload reads l ls) (named (sound_text o) (lines_text number payload reads l ls) text w) left
 
 -- the lines of a text take no more bytes than the text and one end
 pub lines_bytes : (text : List ℕ) → bytes_in (lines_of text) ≤ length text + 1

@@ -1,6 +1,5 @@
 pub mod Pages
 pub mod Replies
-pub mod Anew
 pub mod Lines
 pub mod Rooms
 pub mod Starts

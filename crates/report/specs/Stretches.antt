@@ -5,8 +5,8 @@ use Rattle.wire.specs.declared.refusal.Refusal.{Refusal}
 use Rattle.recovery.specs.Runs.{Event}
 use Rattle.codec.specs.declared.config.Config.{Config}
 use Rattle.codec.specs.Words.{codec}
-use Rattle.model.specs.declared.calls.Call.{Call}
-use Rattle.model.specs.declared.calls.Call.TheVariants as calls
+use Rattle.link.specs.declared.calls.Call.{Call}
+use Rattle.link.specs.declared.calls.Call.TheVariants as calls
 use Rattle.model.specs.Models.{Model, Turn}
 use Rattle.model.specs.Faults.{sender_label_of, receiver_label_of, raw_forward_of, raw_back_of}
 use Rattle.model.specs.Sequences.{events}

@@ -1,75 +1,75 @@
-// Bytes on a page. Each function writes from a place on, leaves all other bytes, and answers the place after.
-ghost use Rattle.std.specs.Prelude.{◌≡◌, ◌+◌, ◌<◌, ◌≤◌, [], ◌∷◌, length, decimal, slice_set};
+// A page that is written from its start.
+ghost use Rattle.std.specs.Prelude.{◌≡◌, ◌<◌, ◌≤◌, [], ◌∷◌, length, decimal};
 ghost use Rattle.text.specs.Hex.{hex_digit, hex_digits};
-ghost use Rattle.report.specs.Pages.{Room, Wrote};
+ghost use Rattle.report.specs.Pages.{HasRoom, Put};
 
-pub(crate) fn put_byte(page: &mut [u8], at: usize, byte: u8) -> usize
-    requires { Room page.old at (byte ∷ []) }
-    ensures { Wrote page.old at (byte ∷ []) page.new result }
-{
-    store(page, at, byte);
-    at + 1
+// The page's bytes, and how many of them are written. `fmt::Write` does not serve here: its error could not be ruled out,
+// and a report has an exact answer for every script.
+#[derive(Drop)]
+pub(crate) struct Page<'a> {
+    bytes: &'a mut [u8],
+    length: usize,
 }
 
-fn store(page: &mut [u8], at: usize, byte: u8)
-    requires { at < length page.old }
-    ensures { page.new ≡ slice_set page.old at byte }
-{
-    page[at] = byte;
-}
-
-pub(crate) fn put_text(page: &mut [u8], at: usize, text: &[u8]) -> usize
-    requires { Room page.old at text.now }
-    ensures { Wrote page.old at text.now page.new result }
-{
-    for (i, byte) in text.iter().enumerate() {
-        page[at + i] = *byte;
+impl<'a> Page<'a> {
+    pub(crate) fn new(bytes: &'a mut [u8]) -> Page<'a>
+        ensures reference { result.bytes.ghost_name ≡ bytes.entry.ghost_name }
+        ensures bytes { result.bytes.now ≡ bytes.old }
+        ensures length { result.length ≡ 0 }
+    {
+        Page { bytes, length: 0 }
     }
-    at + text.len()
-}
 
-pub(crate) fn put_decimal(page: &mut [u8], at: usize, n: u16) -> usize
-    requires { Room page.old at (decimal n) }
-    ensures { Wrote page.old at (decimal n) page.new result }
-{
-    if n < 10 {
-        return put_byte(page, at, b'0' + n as u8);
+    // How many bytes are written.
+    pub(crate) fn length(&self) -> usize
+        ensures { result ≡ self.now.length }
+    {
+        self.length
     }
-    let end = put_decimal(page, at, n / 10);
-    put_byte(page, end, b'0' + (n % 10) as u8)
-}
 
-// A number below 100, without a recursion.
-pub(crate) fn put_small(page: &mut [u8], at: usize, n: u8) -> usize
-    requires { (n < 100) × (Room page.old at (decimal n)) }
-    ensures { Wrote page.old at (decimal n) page.new result }
-{
-    if n < 10 {
-        return put_byte(page, at, b'0' + n);
+    pub(crate) fn put_byte(&mut self, byte: u8)
+        requires { HasRoom self.old 1 }
+        ensures { Put self.old (byte ∷ []) self.new }
+    {
+        self.bytes[self.length] = byte;
+        self.length += 1;
     }
-    let end = put_byte(page, at, b'0' + n / 10);
-    put_byte(page, end, b'0' + n % 10)
-}
 
-// The last nine hexadecimal digits of a number.
-pub(crate) fn put_nine(page: &mut [u8], at: usize, x: u64) -> usize
-    requires { at + 9 ≤ length page.old }
-    ensures { Wrote page.old at (hex_digits 9 x) page.new result }
-{
-    let middle = x / 16 / 16 / 16;
-    let first = put_three(page, at, middle / 16 / 16 / 16);
-    let second = put_three(page, first, middle);
-    put_three(page, second, x)
-}
+    pub(crate) fn put_text(&mut self, text: &[u8])
+        requires { HasRoom self.old (length text.now) }
+        ensures { Put self.old text.now self.new }
+    {
+        let end = self.length + text.len();
+        self.bytes[self.length..end].copy_from_slice(text);
+        self.length = end;
+    }
 
-// The last three.
-fn put_three(page: &mut [u8], at: usize, x: u64) -> usize
-    requires { at + 3 ≤ length page.old }
-    ensures { Wrote page.old at (hex_digits 3 x) page.new result }
-{
-    let first = put_byte(page, at, hex_digit((x / 16 / 16 % 16) as u8));
-    let second = put_byte(page, first, hex_digit((x / 16 % 16) as u8));
-    put_byte(page, second, hex_digit((x % 16) as u8))
+    #[tactic(auto, using(crate::proofs::Writing::one_long, crate::proofs::Writing::one_longer))]
+    pub(crate) fn put_decimal(&mut self, n: u16)
+        requires { HasRoom self.old (length (decimal n)) }
+        ensures { Put self.old (decimal n) self.new }
+    {
+        if n < 10 {
+            return self.put_byte(b'0' + n as u8);
+        }
+        self.put_decimal(n / 10);
+        self.put_byte(b'0' + (n % 10) as u8);
+    }
+
+    // The last digits of a number in hexadecimal, so many of them. They go to the page together, since by a call of `put_byte`
+    // for each a report takes a twentieth longer. By its place, since `iter_mut().rev()` leaves no fact of the digits.
+    pub(crate) fn put_hex<const COUNT: usize>(&mut self, x: u64)
+        requires { HasRoom self.old COUNT }
+        ensures { Put self.old (hex_digits COUNT x) self.new }
+    {
+        let mut digits = [0; COUNT];
+        let mut rest = x;
+        for place in (0..COUNT).rev() {
+            digits[place] = hex_digit((rest % 16) as u8);
+            rest /= 16;
+        }
+        self.put_text(&digits);
+    }
 }
 
 fn hex_digit(d: u8) -> u8

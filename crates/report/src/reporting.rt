@@ -1,11 +1,11 @@
 // The report of a script.
-ghost use Rattle.std.specs.Prelude.{◌≡◌, ◌≤◌, length, IfOk};
+ghost use Rattle.std.specs.Prelude.{◌≡◌, ◌+◌, ◌≤◌, length, IfOk};
 ghost use Rattle.report.specs.Laws.{OneMore, EndsSound, Recovers, Stays};
-ghost use Rattle.report.specs.Pages.{Wrote};
+ghost use Rattle.report.specs.Pages.{HasRoom, Put};
 ghost use Rattle.report.specs.Reports.{report_text, report_of};
 
+use crate::page::Page;
 use crate::reply::Reply;
-use crate::reply::put::put_reply;
 use crate::start::by_setup;
 use script::parse_start;
 use text::lines::split_line;
@@ -40,19 +40,22 @@ fn put_if_fits(script: &[u8], page: &mut [u8]) -> Result<usize, Refusal>
     if script.len() > MOST_SCRIPT || page.len() < LEAST_PAGE {
         return Err(Refusal::Page);
     }
-    Ok(put_report(script, page))
+    let mut page = Page::new(page);
+    put_report(script, &mut page);
+    Ok(page.length())
 }
 
-fn put_report(script: &[u8], page: &mut [u8]) -> usize
-    requires { (length script.now ≤ 4096) × (50000 ≤ length page.old) }
-    ensures text { Wrote page.old 0 (report_text script.now) page.new result }
-    ensures short { result ≤ 50000 }
+#[tactic(auto, using(crate::proofs::Runs::lines_bytes))]
+fn put_report(script: &[u8], page: &mut Page<'_>)
+    requires { (length script.now ≤ 4096) × HasRoom page.old 50000 }
+    ensures text { Put page.old (report_text script.now) page.new }
+    ensures short { page.new.length ≤ page.old.length + 50000 }
 {
     let Some((first, lines)) = split_line(script) else {
-        return 0;
+        return;
     };
     match parse_start(first) {
         Ok(start) => by_setup(start, lines, page),
-        Err(refusal) => put_reply(page, 0, Reply::One(b'?', Err(refusal))),
+        Err(refusal) => page.put_reply(Reply::One(b'?', Err(refusal))),
     }
 }

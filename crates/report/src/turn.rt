@@ -1,15 +1,12 @@
 // One line of a script, on a link.
 ghost use Rattle.std.specs.Prelude.{◌≡◌};
-ghost use Rattle.link.specs.States.{state_of};
-ghost use Rattle.report.specs.Anew.{anew_after};
 ghost use Rattle.model.specs.Models.{model_of};
 ghost use Rattle.report.specs.Lines.{outcome, offered, obeyed, answered};
 ghost use Rattle.report.specs.declared.reply.Reply.TheVariants.{One};
 
 use crate::reply::Reply;
-use channel::Channel;
 use link::Link;
-use records::{Fixed, RecordKind};
+use records::RecordKind;
 use script::Order;
 use shapes::Shaped;
 use wire::Refusal;
@@ -19,7 +16,7 @@ pub(crate) fn answer<F: Shaped, B: Shaped, R: RecordKind>(
     link: &mut Link<F, B, R>,
     order: Result<Order, Refusal>,
 ) -> Reply
-    ensures { outcome result (model_of F.Shaped.shape B.Shaped.shape link.new) ≡ answered R.Number.Fixed.worth R.RecordKind.payload R.RecordKind.reads order (model_of F.Shaped.shape B.Shaped.shape link.old) }
+    ensures { outcome result (model_of F.Shaped.shape B.Shaped.shape link.new) ≡ answered R.RecordKind.NUMBER R.RecordKind.payload R.RecordKind.reads order (model_of F.Shaped.shape B.Shaped.shape link.old) }
 {
     match order {
         Ok(order) => obey(link, order),
@@ -27,49 +24,49 @@ pub(crate) fn answer<F: Shaped, B: Shaped, R: RecordKind>(
     }
 }
 
+// A fault that was accepted starts the observer anew, as a handover does: from there on the link recovers.
 fn obey<F: Shaped, B: Shaped, R: RecordKind>(link: &mut Link<F, B, R>, order: Order) -> Reply
-    ensures { outcome result (model_of F.Shaped.shape B.Shaped.shape link.new) ≡ obeyed R.Number.Fixed.worth R.RecordKind.payload R.RecordKind.reads order (model_of F.Shaped.shape B.Shaped.shape link.old) }
+    ensures { outcome result (model_of F.Shaped.shape B.Shaped.shape link.new) ≡ obeyed R.RecordKind.NUMBER R.RecordKind.payload R.RecordKind.reads order (model_of F.Shaped.shape B.Shaped.shape link.old) }
 {
     match order {
-        Order::Offer(payload) => offer(link, payload),
+        Order::Offer(payload) => Reply::One(b'o', offer(link, payload)),
         Order::Send => Reply::One(b's', link.send()),
         Order::Hear => {
             let (heard, reply) = link.hear();
-            Reply::Hear(heard, reply, held(link))
+            Reply::Hear {
+                heard,
+                reply,
+                payload: held(link),
+            }
         }
         Order::Settle => Reply::One(b'a', link.settle()),
         Order::Tick => Reply::One(b't', link.tick()),
         Order::Round => {
             let (sent, (heard, reply), settled) = link.round();
-            Reply::Round(sent, heard, reply, settled, held(link))
+            Reply::Round {
+                sent,
+                heard,
+                reply,
+                settled,
+                payload: held(link),
+            }
         }
-        Order::SenderLabel(label) => {
-            let answer = link.set_sender_label(label);
-            handed_over(link, b'S', answer)
-        }
-        Order::ReceiverLabel(label) => {
-            let answer = link.set_receiver_label(label);
-            handed_over(link, b'R', answer)
-        }
-        Order::RawForward(word) => {
-            let answer = link.put_forward(word);
-            handed_over(link, b'F', answer)
-        }
-        Order::RawBack(word) => {
-            let answer = link.put_back(word);
-            handed_over(link, b'B', answer)
-        }
+        Order::SenderLabel(label) => Reply::One(b'S', link.set_sender_label(label)),
+        Order::ReceiverLabel(label) => Reply::One(b'R', link.set_receiver_label(label)),
+        Order::RawForward(word) => Reply::One(b'F', link.put_forward(word)),
+        Order::RawBack(word) => Reply::One(b'B', link.put_back(word)),
     }
 }
 
 // A payload that is no record is turned away before the link is asked.
-fn offer<F: Shaped, B: Shaped, R: RecordKind>(link: &mut Link<F, B, R>, payload: u64) -> Reply
-    ensures { outcome result (model_of F.Shaped.shape B.Shaped.shape link.new) ≡ offered R.Number.Fixed.worth R.RecordKind.payload R.RecordKind.reads (R.RecordKind.reads link.old.config.kind payload) (model_of F.Shaped.shape B.Shaped.shape link.old) }
+fn offer<F: Shaped, B: Shaped, R: RecordKind>(
+    link: &mut Link<F, B, R>,
+    payload: u64,
+) -> Result<(), Refusal>
+    ensures { outcome (One 111 result) (model_of F.Shaped.shape B.Shaped.shape link.new) ≡ offered R.RecordKind.NUMBER R.RecordKind.payload R.RecordKind.reads (R.RecordKind.reads link.old.config.kind payload) (model_of F.Shaped.shape B.Shaped.shape link.old) }
 {
-    match link.kind().unpack(payload) {
-        Ok(r) => Reply::One(b'o', link.offer(r)),
-        Err(refusal) => Reply::One(b'o', Err(refusal)),
-    }
+    let record = link.kind().unpack(payload)?;
+    link.offer(record)
 }
 
 // The payload of the record that the receiver holds.
@@ -77,19 +74,4 @@ fn held<F, B, R: RecordKind>(link: &Link<F, B, R>) -> u64
     ensures { result ≡ R.RecordKind.payload link.now.config.kind link.now.receiver.delivered }
 {
     link.kind().pack(&link.receiver().delivered)
-}
-
-// After a fault that was accepted the link is handed over, so that from there on it recovers.
-fn handed_over<F: Channel, B: Channel, R: RecordKind>(
-    link: &mut Link<F, B, R>,
-    letter: u8,
-    answer: Result<(), Refusal>,
-) -> Reply
-    ensures reply { result ≡ One letter answer }
-    ensures after { state_of link.new ≡ anew_after answer (state_of link.old) }
-{
-    if answer.is_ok() {
-        link.handover();
-    }
-    Reply::One(letter, answer)
 }

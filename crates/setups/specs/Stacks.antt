@@ -12,7 +12,7 @@ use Rattle.relays.specs.Relays.{relayed}
 
 -- a ring of these words and this capacity
 abbrev pub IsRing : List ℕ → ℕ → Ring → Type 0
-IsRing words capacity s = (ring_words s ≡ words) × (s.capacity ≡ capacity)
+IsRing words capacity s = (ring_words s ≡ words) × (s.queue.capacity ≡ capacity)
 
 -- a delay line of these words, due numbers, capacity and delay
 abbrev pub IsLine : List ℕ → List ℕ → ℕ → ℕ → DelayLine → Type 0

@@ -27,7 +27,7 @@ pub fn first_forward() -> FirstForward
     Ring::new(1)
 }
 
-// The same.
+// The same: a set-up names a channel each way.
 pub fn first_back() -> FirstBack
     ensures parts { IsRing [] 1 result }
     ensures meaning { ring_means result ≡ first_back }

@@ -8,7 +8,7 @@ use Rattle.relays.specs.declared.relay.Relay.{Relay}
 use Rattle.shapes.specs.Shapes.{Shape, ring, line, loss, relay}
 
 abbrev pub ring_shape : Ring → Shape
-ring_shape s = ring (ring_words s) s.capacity
+ring_shape s = ring (ring_words s) s.queue.capacity
 
 abbrev pub line_shape : DelayLine → Shape
 line_shape s = line (line_words s) (line_dues s) s.queue.capacity s.delay

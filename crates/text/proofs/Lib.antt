@@ -1,2 +1,4 @@
-pub mod Digits
+pub mod Cuts
+pub mod Folding
+pub mod HexDigits
 pub mod Splits

@@ -1,2 +1,4 @@
+pub mod Digits
 pub mod Hex
 pub mod Lines
+pub mod Parts

@@ -1,17 +1,18 @@
 -- A text by its lines. A line ends with byte 10, the last one also without. Assumes nothing.
-use Rattle.std.specs.Prelude.{ℕ, suc, cond, List, [], ◌∷◌, take, drop, ◌==◌}
+use Rattle.std.specs.Prelude.{ℕ, cond, List, [], ◌∷◌, ◌==◌}
+use Rattle.std.specs.List.{after_first}
+use Rattle.text.specs.Parts.{length_before, part_before}
 
 -- how many bytes stand before the first line end
 abbrev pub line_length : List ℕ → ℕ
-line_length [] = 0
-line_length (c ∷ cs) = cond (c == 10) 0 (suc (line_length cs))
+line_length text = length_before 10 text
 
 abbrev pub line_of : List ℕ → List ℕ
-line_of text = take (line_length text) text
+line_of text = part_before 10 text
 
 -- what comes after the first line end
 abbrev pub rest_of : List ℕ → List ℕ
-rest_of text = drop (suc (line_length text)) text
+rest_of text = after_first (λ c. c == 10) text
 
 -- a byte before the lines of what follows it
 abbrev pub before : ℕ → List (List ℕ) → List (List ℕ)

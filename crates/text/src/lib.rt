@@ -1,5 +1,7 @@
-// Texts that people and programs exchange: hexadecimal digits, and lines.
+// Texts that people and programs exchange: digits, lines, and parts that a byte divides.
 #![tactic(auto)]
 
+pub mod digits;
 pub mod hex;
 pub mod lines;
+pub mod parts;

@@ -1,5 +1,12 @@
-ghost use Rattle.std.specs.Prelude.{◌≡◌, ◌<◌, ◌≤◌, [], ◌∷◌, length, MatchOption, ◌==◌};
-ghost use Rattle.text.specs.Lines.{line_length, line_of, rest_of, lines_of};
+// A text, line by line. A line ends with a line feed, the last one also without.
+ghost use Rattle.std.specs.Prelude.{◌≡◌, ◌<◌, ℕ, List, [], ◌∷◌, length, MatchOption};
+ghost use Rattle.std.specs.Iterator.{YieldsFirstRef, item_count};
+ghost use Rattle.std.specs.Option.{option_map};
+ghost use Rattle.text.specs.Lines.{line_of, rest_of, lines_of};
+ghost use Rattle.text.specs.Parts.{part_after};
+
+use crate::parts::split_at_byte;
+use std::marker::Model;
 
 // The first line of a text and what comes after its end, or nothing where the text is empty.
 pub fn split_line(text: &[u8]) -> Option<(&[u8], &[u8])>
@@ -10,35 +17,56 @@ pub fn split_line(text: &[u8]) -> Option<(&[u8], &[u8])>
     if text.is_empty() {
         return None;
     }
-    let end = line_length(text);
-    if ends_text(end, text.len()) {
-        return Some((text, &text[end..]));
+    let (line, rest) = first_line(text);
+    Some((line, rest.unwrap_or(&[])))
+}
+
+// The first line, and what comes after its end, if it has one.
+fn first_line(text: &[u8]) -> (&[u8], Option<&[u8]>)
+    ensures line { result.0.now ≡ line_of text.now }
+    ensures rest { option_map (λ x. x.now) result.1 ≡ part_after 10 text.now }
+{
+    split_at_byte(text, b'\n')
+}
+
+// The lines of a text, one after another.
+#[derive(Drop)]
+pub struct Lines<'a> {
+    rest: &'a [u8],
+}
+
+// In contracts it is the text of the lines that are left.
+impl<'a> Model for Lines<'a> {
+    ghost Value = { List ℕ };
+
+    ghost view = { λ s. s.rest.now };
+}
+
+impl<'a> Lines<'a> {
+    pub fn new(text: &'a [u8]) -> Lines<'a>
+        ensures { result ≡ text.now }
+    {
+        Lines { rest: text }
     }
-    Some((&text[0..end], &text[end + 1..]))
-}
 
-// How many bytes stand before the first line end.
-fn line_length(text: &[u8]) -> usize
-    ensures value { result ≡ line_length text.now }
-    ensures bound { result ≤ length text.now }
-{
-    for (i, byte) in text.iter().enumerate() {
-        if is_line_end(*byte) {
-            return i;
-        }
+    // The lines that are left, as a text.
+    pub fn rest(&self) -> &'a [u8]
+        ensures { result.now ≡ self.now }
+    {
+        self.rest // what no call of `next` gave yet
     }
-    text.len()
 }
 
-// Whether a line that stops at a place is a last one without its end.
-fn ends_text(end: usize, length: usize) -> bool
-    ensures { result ≡ (end == length) }
-{
-    end == length
-}
+impl<'a> Iterator for Lines<'a> {
+    type Item = &'a [u8];
 
-fn is_line_end(byte: u8) -> bool
-    ensures { result ≡ (byte == 10) }
-{
-    byte == b'\n'
+    ghost next_gives = { YieldsFirstRef lines_of };
+
+    ghost remaining = { item_count lines_of };
+
+    fn next(&mut self) -> Option<&'a [u8]> {
+        let (line, rest) = split_line(self.rest)?;
+        self.rest = rest;
+        Some(line)
+    }
 }

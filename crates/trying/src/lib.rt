@@ -9,5 +9,4 @@ pub mod watch;
 
 pub use dice::Dice;
 pub use table::Row;
-pub use trial::{Stack, try_stack};
 pub use watch::Broken;

@@ -105,10 +105,7 @@ fn any_word(dice: &mut Dice, labels: u64) -> u64 {
 
 // The word of a reading under a label.
 fn record_word(label: u8, serial: u64) -> u64 {
-    let payload = match numbered(serial) {
-        Ok(reading) => low(Readings.pack(&reading), 36),
-        Err(_) => 0,
-    };
+    let payload = numbered(serial).map_or(0, |reading| low(Readings.pack(&reading), 36));
     Word {
         label,
         kind: 2,

@@ -2,8 +2,8 @@
 use crate::watch::Broken;
 use std::fmt;
 
-// What the trials of one stack found.
-#[derive(Clone, Copy)]
+// What the trials of one stack found, from 0 of everything on.
+#[derive(Clone, Copy, Default)]
 pub struct Row {
     pub labels: u16,
     pub starts: u64,
@@ -21,16 +21,12 @@ pub struct Row {
 
 impl fmt::Display for Row {
     fn fmt<W: fmt::Write>(&self, f: &mut fmt::Formatter<W>) -> fmt::Result {
-        let labels = self.labels;
-        let starts = self.starts;
-        let calls = self.calls;
-        let exchanges = self.exchanges;
-        write!(f, "{labels:>6} {starts:>7} {calls:>9} {exchanges:>10}")?;
-        let latest = self.latest;
-        let latest_promised = self.latest_promised;
-        write!(f, " {latest:>6} of {latest_promised:<4}")?;
-        let longest = self.longest;
-        let longest_promised = self.longest_promised;
-        write!(f, " {longest:>5} of {longest_promised}")
+        write!(
+            f,
+            "{:>6} {:>7} {:>9} {:>10}",
+            self.labels, self.starts, self.calls, self.exchanges
+        )?;
+        write!(f, " {:>6} of {:<4}", self.latest, self.latest_promised)?;
+        write!(f, " {:>5} of {}", self.longest, self.longest_promised)
     }
 }

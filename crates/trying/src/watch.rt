@@ -1,26 +1,32 @@
 // What is promised of a link after its handover, watched call by call.
-ghost use Rattle.std.specs.Prelude.{◌≡◌, ◌<◌, ◌≤◌, true, false, is_ok, Some};
+ghost use Rattle.std.specs.Prelude.{◌≡◌, ◌<◌, ◌≤◌, true, is_ok, is_some, Some};
 ghost use Rattle.trying.specs.Watching.{watching};
+ghost use Rattle.trying.specs.declared.watch.Completion.TheVariants.{Unclean};
 
 use link::Observer;
 use std::fmt;
 
-// What a call did: a record accepted or delivered, by its payload; an exchange completed, and whether the link was clean
-// right then, where that could be asked; and whether the call was a round.
+// How an exchange was completed: whether the link was clean right then, where that could be asked.
+#[derive(Clone, Copy)]
+pub enum Completion {
+    Clean,
+    Unclean,
+    Unasked,
+}
+
+// What a call did: a record accepted or delivered, by its payload; an exchange completed; and whether the call was a round.
 #[derive(Clone, Copy)]
 pub struct Seen {
     pub accepted: Option<u64>,
     pub delivered: Option<u64>,
-    pub completed: bool,
-    pub clean: Option<bool>,
+    pub completed: Option<Completion>,
     pub round: bool,
 }
 
 pub const NOTHING: Seen = Seen {
     accepted: None,
     delivered: None,
-    completed: false,
-    clean: None,
+    completed: None,
     round: false,
 };
 
@@ -73,17 +79,13 @@ impl Watch {
     pub fn new(latest: u64, is_under_way: bool, promised: u64) -> Watch
         ensures { result ≡ watching latest is_under_way promised }
     {
-        let exchange = if is_under_way {
-            Some(Exchange {
-                rounds: 0,
-                promised,
-            })
-        } else {
-            None
+        let exchange = Exchange {
+            rounds: 0,
+            promised,
         };
         Watch {
             latest,
-            exchange,
+            exchange: is_under_way.then_some(exchange),
             accepted: 0,
             delivered: 0,
             last: 0,
@@ -108,7 +110,7 @@ impl Watch {
         if before.first != 0 {
             self.note_order(seen)?;
         }
-        if seen.completed {
+        if seen.completed.is_some() {
             self.note_completion(seen, before, after)?;
         }
         self.note_time(seen, promised)
@@ -117,7 +119,7 @@ impl Watch {
     // From the first clean exchange on the records delivered are those accepted; only the last may be missing, while it is under way.
     fn note_order(&mut self, seen: Seen) -> Result<(), Broken>
         ensures time { (self.new.latest ≡ self.old.latest) × (self.new.longest ≡ self.old.longest) }
-        ensures order { is_ok result ≡ true → seen.completed ≡ true → self.new.delivered ≡ self.new.accepted }
+        ensures order { is_ok result ≡ true → is_some seen.completed ≡ true → self.new.delivered ≡ self.new.accepted }
     {
         if let Some(payload) = seen.accepted {
             self.accepted = self.accepted.saturating_add(1);
@@ -129,7 +131,7 @@ impl Watch {
                 return Err(Broken::Order);
             }
         }
-        if seen.completed && self.delivered != self.accepted {
+        if seen.completed.is_some() && self.delivered != self.accepted {
             return Err(Broken::Order);
         }
         Ok(())
@@ -138,29 +140,26 @@ impl Watch {
     // One of the first exchanges leaves the link clean, and so does each one after it.
     fn note_completion(&self, seen: Seen, before: Observer, after: Observer) -> Result<(), Broken>
         ensures first { is_ok result ≡ true → self.now.latest ≤ after.completed → (0 < after.first) × (after.first ≤ self.now.latest) }
-        ensures again { is_ok result ≡ true → seen.clean ≡ Some false → before.first ≡ 0 }
+        ensures again { is_ok result ≡ true → seen.completed ≡ Some Unclean → before.first ≡ 0 }
     {
         let first = after.first as u64;
         if after.completed as u64 >= self.latest && (first == 0 || first > self.latest) {
             return Err(Broken::FirstClean);
         }
-        match seen.clean {
-            Some(false) if before.first != 0 => Err(Broken::CleanAgain),
+        match seen.completed {
+            Some(Completion::Unclean) if before.first != 0 => Err(Broken::CleanAgain),
             _ => Ok(()),
         }
     }
 
     // An exchange under way is completed within its rounds.
     fn note_time(&mut self, seen: Seen, promised: u64) -> Result<(), Broken> {
-        if let Some(exchange) = self.exchange {
-            let rounds = exchange.rounds.saturating_add(seen.round as u64);
-            self.longest = self.longest.max(rounds);
-            let left = Exchange {
-                rounds,
-                promised: exchange.promised,
-            };
-            self.exchange = if seen.completed { None } else { Some(left) };
-            if !seen.completed && rounds >= exchange.promised {
+        if let Some(exchange) = &mut self.exchange {
+            exchange.rounds = exchange.rounds.saturating_add(seen.round as u64);
+            self.longest = self.longest.max(exchange.rounds);
+            if seen.completed.is_some() {
+                self.exchange = None;
+            } else if exchange.rounds >= exchange.promised {
                 return Err(Broken::Rounds);
             }
         }

@@ -6,5 +6,6 @@ pub mod refusal;
 pub mod word;
 
 pub use refusal::Refusal;
+pub use refusal::text::answer_number;
 pub use word::Word;
 pub use word::codec::is_whole;

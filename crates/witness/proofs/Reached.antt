@@ -12,7 +12,7 @@ use Rattle.shapes.specs.Shapes.{means}
 use Rattle.shapes.specs.Moves.{shape_behaviour}
 use Rattle.shapes.specs.Stacks.{ring_shape}
 use Rattle.shapes.specs.Queues.{ring_moves}
-use Rattle.model.specs.declared.calls.Call.{Call}
+use Rattle.link.specs.declared.calls.Call.{Call}
 use Rattle.model.specs.Models.{Model, shaped_state}
 use Rattle.model.specs.Sequences.{events_all}
 use Rattle.model.proofs.Exact.{check_is}

@@ -4,10 +4,10 @@ use Rattle.commands.specs.declared.command.Command.{Command}
 use Rattle.commands.specs.declared.command.kind.Commands.{Commands}
 use Rattle.codec.specs.declared.config.Config.{Config}
 use Rattle.shapes.specs.Shapes.{ring}
-use Rattle.model.specs.declared.calls.Call.{Call}
-use Rattle.model.specs.declared.calls.Call.TheVariants.{Offer, Send, Hear, Settle, Round}
-use Rattle.model.specs.declared.calls.Fault.{Fault}
-use Rattle.model.specs.declared.calls.Fault.TheVariants.{PutForward, PutBack}
+use Rattle.link.specs.declared.calls.Call.{Call}
+use Rattle.link.specs.declared.calls.Call.TheVariants.{Offer, Send, Hear, Settle, Round}
+use Rattle.link.specs.declared.calls.Fault.{Fault}
+use Rattle.link.specs.declared.calls.Fault.TheVariants.{PutForward, PutBack}
 use Rattle.model.specs.Models.{Model}
 use Rattle.model.specs.Makings.{new_of}
 use Rattle.model.specs.Disturbances.{disturbed_all}

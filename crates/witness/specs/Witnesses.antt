@@ -25,8 +25,8 @@ command_words = codec 1 (λ k r. command_payload r) (λ k p. command_reads p)
 -- the exchanges that were completed left it clean or not as marked.
 pub record CameBy (f b : ℕ) (cleans : List Bool) (here : RingLink) : Type 0 where
   pub start : RingLink
-  pub forward : start.forward.capacity ≡ f
-  pub back : start.back.capacity ≡ b
+  pub forward : start.forward.queue.capacity ≡ f
+  pub back : start.back.queue.capacity ≡ b
   pub handed_over : HandedOver command_words ring_behaviour ring_behaviour 256 start
   pub recovers : Recovers command_words ring_behaviour ring_behaviour start
   pub events : List (Event Command)

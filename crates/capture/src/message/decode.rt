@@ -4,7 +4,7 @@ ghost use Rattle.capture.specs.Decoding.{bits_of, record_in, content_of, decoded
 use super::{Content, Fault, Message};
 use commands::Commands;
 use readings::Readings;
-use records::{Fixed, RecordKind};
+use records::RecordKind;
 use text::hex::parse_hex;
 use wire::Word;
 
@@ -19,19 +19,12 @@ pub fn decode(line: &[u8]) -> Result<Message, Fault>
 fn message_in(line: &[u8]) -> Result<Message, Fault>
     ensures { result ≡ decoded line.now }
 {
-    let Some(bits) = bits_of(line) else {
-        return Err(Fault::NoWord);
-    };
-    let Some(word) = Word::read(bits) else {
-        return Err(Fault::NotWhole);
-    };
-    match content_of(word) {
-        Ok(content) => Ok(Message {
-            label: word.label,
-            content,
-        }),
-        Err(fault) => Err(fault),
-    }
+    let bits = bits_of(line).ok_or(Fault::NoWord)?;
+    let word = Word::read(bits).ok_or(Fault::NotWhole)?;
+    Ok(Message {
+        label: word.label,
+        content: content_of(word)?,
+    })
 }
 
 // The 64 bits that a line of sixteen digits writes.
@@ -50,27 +43,17 @@ fn content_of(word: Word) -> Result<Content, Fault>
     if word.is_acknowledgement() {
         return Ok(Content::Acknowledgement);
     }
-    if word.kind == Commands::NUMBER.value() {
-        return match record_in(&Commands, word) {
-            Ok(command) => Ok(Content::Command(command)),
-            Err(fault) => Err(fault),
-        };
+    match word.kind {
+        Commands::NUMBER => record_in(&Commands, word).map(Content::Command),
+        Readings::NUMBER => record_in(&Readings, word).map(Content::Reading),
+        kind => Err(Fault::UnknownKind(kind)),
     }
-    if word.kind == Readings::NUMBER.value() {
-        return match record_in(&Readings, word) {
-            Ok(reading) => Ok(Content::Reading(reading)),
-            Err(fault) => Err(fault),
-        };
-    }
-    Err(Fault::UnknownKind(word.kind))
 }
 
 // The record in a word of this kind.
 fn record_in<R: RecordKind>(kind: &R, word: Word) -> Result<R::Record, Fault>
-    ensures { result ≡ record_in R.Number.Fixed.worth (R.RecordKind.reads kind.now word.payload) }
+    ensures { result ≡ record_in R.RecordKind.NUMBER (R.RecordKind.reads kind.now word.payload) }
 {
-    match kind.unpack(word.payload) {
-        Ok(record) => Ok(record),
-        Err(_) => Err(Fault::NoRecord(R::NUMBER.value())),
-    }
+    kind.unpack(word.payload)
+        .map_err(|_| Fault::NoRecord(R::NUMBER))
 }

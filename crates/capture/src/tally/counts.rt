@@ -21,28 +21,23 @@ impl Tally {
     pub fn after(self, found: Result<Message, Fault>) -> Tally
         ensures { result ≡ noted self found }
     {
-        let Tally {
-            records,
-            acknowledgements,
-            unreadable,
-        } = self;
         match found {
-            Ok(message) => match message.content {
-                Content::Acknowledgement => Tally {
-                    records,
-                    acknowledgements: acknowledgements.saturating_add(1),
-                    unreadable,
+            Ok(
+                Message {
+                    content: Content::Acknowledgement,
+                    ..
                 },
-                _ => Tally {
-                    records: records.saturating_add(1),
-                    acknowledgements,
-                    unreadable,
-                },
+            ) => Tally {
+                acknowledgements: self.acknowledgements.saturating_add(1),
+                ..self
+            },
+            Ok(_) => Tally {
+                records: self.records.saturating_add(1),
+                ..self
             },
             Err(_) => Tally {
-                records,
-                acknowledgements,
-                unreadable: unreadable.saturating_add(1),
+                unreadable: self.unreadable.saturating_add(1),
+                ..self
             },
         }
     }

@@ -9,7 +9,7 @@ use Rattle.client.proofs.exchange.Goals as goal
 
 pub returns : goal.returns
 returns g c =
-    let words = codec g.R.Number.Fixed.worth g.R.RecordKind.payload g.R.RecordKind.reads in
+    let words = codec g.R.RecordKind.NUMBER g.R.RecordKind.payload g.R.RecordKind.reads in
     let forward = behaviour_of g.F.Channel in
     let back = behaviour_of g.B.Channel in
     let before = state_of c.args.link.now in

@@ -1,4 +1,4 @@
-use Rattle.std.proofs.Common.{◌≡◌, sym, add-one, arith}
+use Rattle.std.proofs.Common.{add-one}
 use Rattle.client.specs.Turns.{none, more}
 use Rattle.client.proofs.perform.Goals as goal
 
@@ -7,8 +7,3 @@ loop-done-init g c = none
 
 pub loop-done-preserved : goal.loop-done-preserved
 loop-done-preserved g c = rw add-one (more c.loop-done.invariant c.offer.ensures c.round.ensures)
-
-pub returns : goal.returns
-returns g c =
-    let all : c.loop-done.done ≡ c.args.rounds = omega arith in
-    rw (sym all) c.loop-done.invariant

@@ -4,7 +4,7 @@ ghost use Rattle.wire.specs.Words.{word_of, acknowledgement, packed};
 ghost use Rattle.codec.specs.Words.{read_word, read_ack, send_word};
 
 use super::Config;
-use records::{Fixed, RecordKind};
+use records::RecordKind;
 use wire::Word;
 
 impl<R> Config<R> {
@@ -12,43 +12,37 @@ impl<R> Config<R> {
     pub fn read_ack(&self, bits: u64) -> Option<u8>
         ensures { result ≡ read_ack self.now.labels bits }
     {
-        match Word::read(bits) {
-            Some(word) if (word.label as u16) < self.labels && word.is_acknowledgement() => Some(
-                word.label,
-            ),
-            _ => None,
+        let word = Word::read(bits)?;
+        if word.label as u16 >= self.labels || !word.is_acknowledgement() {
+            return None;
         }
+        Some(word.label)
     }
 }
 
 impl<R: RecordKind> Config<R> {
     // The word of a record under a label.
     pub fn send_word(&self, label: u8, r: &R::Record) -> u64
-        ensures { result ≡ send_word R.Number.Fixed.worth (R.RecordKind.payload self.now.kind) label r.now }
+        ensures { result ≡ send_word R.RecordKind.NUMBER (R.RecordKind.payload self.now.kind) label r.now }
     {
-        let payload = self.kind.pack(r);
-        let word = Word {
+        Word {
             label,
-            kind: R::NUMBER.value(),
-            payload,
-        };
-        word.pack()
+            kind: R::NUMBER,
+            payload: self.kind.pack(r),
+        }
+        .pack()
     }
 
     // The label and the record that a word carries, or nothing where it is spoilt.
     pub fn read_word(&self, bits: u64) -> Option<(u8, R::Record)>
-        ensures { result ≡ read_word self.now.labels R.Number.Fixed.worth (R.RecordKind.reads self.now.kind) bits }
+        ensures { result ≡ read_word self.now.labels R.RecordKind.NUMBER (R.RecordKind.reads self.now.kind) bits }
     {
-        let Some(word) = Word::read(bits) else {
-            return None;
-        };
-        if word.label as u16 >= self.labels || word.kind != R::NUMBER.value() {
+        let word = Word::read(bits)?;
+        if word.label as u16 >= self.labels || word.kind != R::NUMBER {
             return None;
         }
-        match self.kind.unpack(word.payload) {
-            Ok(r) => Some((word.label, r)),
-            Err(_) => None,
-        }
+        let r = self.kind.unpack(word.payload).ok()?;
+        Some((word.label, r))
     }
 }
 

@@ -6,7 +6,6 @@ ghost use Rattle.std.proofs.Common.{rules};
 use super::Command;
 use crate::table::ROWS;
 use crate::table::lookup::{fields_in, payload_in};
-use records::fixed::Byte;
 use records::kind::RecordKind;
 use wire::Refusal;
 
@@ -15,19 +14,19 @@ use wire::Refusal;
 pub struct Commands;
 
 impl RecordKind for Commands {
-    type Number = Byte<1>;
-
-    type Letter = Byte<b'C'>;
-
-    const NUMBER: Byte<1> = Byte { value: 1 };
-
-    const LETTER: Byte<b'C'> = Byte { value: b'C' };
-
     type Record = Command;
+
+    ghost NUMBER = { 1 };
+
+    ghost LETTER = { 67 };
 
     ghost payload = { λ k r. command_payload r };
 
     ghost reads = { λ k p. command_reads p };
+
+    const NUMBER: u8 = 1;
+
+    const LETTER: u8 = b'C';
 
     ghost numbered = { Prim.search rules };
 
@@ -40,16 +39,11 @@ impl RecordKind for Commands {
     ghost once = { λ k p r e. laws.once p r e };
 
     fn pack(&self, r: &Command) -> u64 {
-        match payload_in(&ROWS, r.code, r.argument) {
-            Some(p) => p,
-            None => unreachable(),
-        }
+        payload_in(&ROWS, r.code, r.argument).unwrap()
     }
 
     fn unpack(&self, p: u64) -> Result<Command, Refusal> {
-        match fields_in(&ROWS, p) {
-            Some((code, argument)) => Ok(Command { code, argument }),
-            None => Err(Refusal::Code),
-        }
+        let (code, argument) = fields_in(&ROWS, p).ok_or(Refusal::Code)?;
+        Ok(Command { code, argument })
     }
 }

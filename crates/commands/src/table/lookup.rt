@@ -1,7 +1,7 @@
 ghost use Rattle.std.specs.Prelude.{◌≡◌, ◌^◌, ◌<◌, IfSome, Some, OnSome};
-ghost use Rattle.commands.specs.Table.{absent, admits, allows_in, payload_in, fields_in};
+ghost use Rattle.commands.specs.Table.{admits, allows_in, payload_in, fields_in};
 
-use super::Row;
+use super::{Row, Rows};
 use wire::bits::{join, low};
 
 impl Row {
@@ -9,22 +9,22 @@ impl Row {
     pub fn admits(&self, argument: u32) -> bool
         ensures { result ≡ admits self.now argument }
     {
-        self.allowed && self.lowest <= argument && argument <= self.highest
+        self.lowest <= argument && argument <= self.highest
     }
 }
 
 // Whether a table takes a code with this argument.
-pub fn allows(rows: &[Row; 16], code: u8, argument: u32) -> bool
+pub fn allows(rows: &Rows, code: u8, argument: u32) -> bool
     ensures { result ≡ allows_in rows.now code argument }
 {
     if code >= 16 {
         return false;
     }
-    rows[code as usize].admits(argument)
+    rows[code as usize].is_some_and(|row| row.admits(argument))
 }
 
 // The payload of a code and its argument, where the table takes them. It reads back.
-pub fn payload_in(rows: &[Row; 16], code: u8, argument: u32) -> Option<u64>
+pub fn payload_in(rows: &Rows, code: u8, argument: u32) -> Option<u64>
     ensures value { result ≡ payload_in rows.now code argument }
     ensures back { IfSome result (λ p. fields_in rows.now p ≡ Some (code, argument)) }
 {
@@ -35,18 +35,15 @@ pub fn payload_in(rows: &[Row; 16], code: u8, argument: u32) -> Option<u64>
 }
 
 // The code and the argument in a payload, where the table takes them. They have no other payload.
-pub fn fields_in(rows: &[Row; 16], payload: u64) -> Option<(u8, u32)>
+pub fn fields_in(rows: &Rows, payload: u64) -> Option<(u8, u32)>
     ensures value { result ≡ fields_in rows.now payload }
     ensures once { IfSome result (λ f. payload_in rows.now f.0 f.1 ≡ Some payload) }
     ensures short { OnSome result (payload < 2 ^ 36) }
 {
-    let code = payload >> 32;
+    let code = u8::try_from(payload >> 32).ok()?;
     let argument = low(payload, 32) as u32;
-    if code >= 16 {
+    if !allows(rows, code, argument) {
         return None;
     }
-    if !allows(rows, code as u8, argument) {
-        return None;
-    }
-    Some((code as u8, argument))
+    Some((code, argument))
 }

@@ -5,6 +5,7 @@ ghost use Rattle.door.specs.Outputs.{after};
 ghost use Rattle.door.specs.CommandCalls.{packed_command, unpacked_command};
 
 use super::CommandParts;
+use crate::status::give;
 use commands::{Command, Commands};
 use records::RecordKind;
 
@@ -14,13 +15,8 @@ pub extern "C" fn gelmuska_command_pack(parts: &CommandParts, payload: &mut u64)
     ensures status { result ≡ answer_of (packed_command parts.now) }
     ensures payload { payload.new ≡ after (packed_command parts.now) payload.old }
 {
-    match Command::new(parts.code, parts.argument) {
-        Ok(command) => {
-            *payload = Commands.pack(&command);
-            0
-        }
-        Err(refusal) => refusal.number() as u32,
-    }
+    let command = Command::new(parts.code, parts.argument);
+    give(command.map(|command| Commands.pack(&command)), payload)
 }
 
 // The command that a payload is. Refused `code` where it is none.
@@ -29,14 +25,5 @@ pub extern "C" fn gelmuska_command_unpack(payload: u64, parts: &mut CommandParts
     ensures status { result ≡ answer_of (unpacked_command payload) }
     ensures parts { parts.new ≡ after (unpacked_command payload) parts.old }
 {
-    match Commands.unpack(payload) {
-        Ok(command) => {
-            *parts = CommandParts {
-                code: command.code(),
-                argument: command.argument(),
-            };
-            0
-        }
-        Err(refusal) => refusal.number() as u32,
-    }
+    give(Commands.unpack(payload).map(CommandParts::from), parts)
 }

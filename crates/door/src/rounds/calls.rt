@@ -5,6 +5,7 @@ ghost use Rattle.door.specs.Outputs.{after};
 ghost use Rattle.door.specs.RoundCalls.{observer_on, observed_on};
 
 use super::ObserverParts;
+use crate::status::give;
 use commands::{Command, Commands};
 use ends::Observer;
 use exercise::exercise;
@@ -23,25 +24,8 @@ pub extern "C" fn gelmuska_rounds(
     ensures status { result ≡ answer_of (observed_on setup labels rounds) }
     ensures observer { observer.new ≡ after (observed_on setup labels rounds) observer.old }
 {
-    match seen(setup, labels, rounds) {
-        Ok(found) => {
-            *observer = found;
-            0
-        }
-        Err(refusal) => refusal.number() as u32,
-    }
-}
-
-fn seen(setup: u8, labels: u16, rounds: u32) -> Result<ObserverParts, Refusal>
-    ensures { result ≡ observed_on setup labels rounds }
-{
-    match on_setup(setup, labels, rounds) {
-        Ok(observer) => Ok(ObserverParts {
-            completed: observer.completed,
-            first: observer.first,
-        }),
-        Err(refusal) => Err(refusal),
-    }
+    let seen = on_setup(setup, labels, rounds);
+    give(seen.map(ObserverParts::from), observer)
 }
 
 fn on_setup(setup: u8, labels: u16, rounds: u32) -> Result<Observer, Refusal>

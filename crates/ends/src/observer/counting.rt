@@ -1,9 +1,8 @@
 // What an observer counts.
 ghost use Rattle.std.specs.Prelude.{◌≡◌};
-ghost use Rattle.ends.specs.Observers.{unobserved, counted, observed, after_fault};
+ghost use Rattle.ends.specs.Observers.{unobserved, counted, observed};
 
 use super::Observer;
-use wire::Refusal;
 
 impl Observer {
     // Nothing observed yet.
@@ -35,14 +34,4 @@ fn next_count(n: u16) -> u16
     ensures { result ≡ counted n }
 {
     n.saturating_add(1)
-}
-
-// A fault call that was accepted starts the observer anew; a refused one leaves it.
-pub fn after_fault(answer: Result<(), Refusal>, observer: Observer) -> Observer
-    ensures { result ≡ after_fault answer observer }
-{
-    match answer {
-        Ok(()) => Observer::new(),
-        Err(_) => observer,
-    }
 }

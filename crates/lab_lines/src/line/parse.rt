@@ -1,7 +1,8 @@
 // Lines of the lab, read field by field.
-use super::{Call, Fault, Kind, Line, Making, OnChannel, Order, Pair, Question, Side, Sizes};
+use super::{Fault, Line, Making, OnChannel, Order, Pair, Question, Side, Sizes};
 use fields::Fields;
-use link::State;
+use link::{Call, State};
+use script::Kind;
 
 // What a line asks for; nothing where it has no listed form.
 pub fn parse_line(line: &[u8]) -> Option<Line> {
@@ -10,7 +11,7 @@ pub fn parse_line(line: &[u8]) -> Option<Line> {
         b"link" => Line::Link(making(&mut fields)?),
         name => Line::Order(order(name, &mut fields)?),
     };
-    if fields.is_done() { Some(parsed) } else { None }
+    fields.is_done().then_some(parsed)
 }
 
 fn making(fields: &mut Fields<'_>) -> Option<Making> {
@@ -27,7 +28,7 @@ fn making(fields: &mut Fields<'_>) -> Option<Making> {
         b"G" => Kind::Readings,
         _ => return None,
     };
-    let labels = small(fields)?;
+    let labels = number(fields)?;
     let sizes = sizes(fields)?;
     Some(Making {
         pair,
@@ -41,58 +42,38 @@ fn sizes(fields: &mut Fields<'_>) -> Option<Sizes> {
     Some(Sizes {
         x: fields.digits(16)?,
         y: fields.digits(16)?,
-        a: small(fields)?,
-        b: small(fields)?,
-        c: small(fields)?,
-        d: small(fields)?,
+        a: number(fields)?,
+        b: number(fields)?,
+        c: number(fields)?,
+        d: number(fields)?,
     })
 }
 
 // The orders by their names.
 fn order(name: &[u8], fields: &mut Fields<'_>) -> Option<Order> {
-    if let Some(question) = question(name) {
-        return Some(Order::Question(question));
-    }
-    if let Some(call) = bare_call(name) {
-        return Some(Order::Call(call));
-    }
-    let order = match name {
+    Some(match name {
         b"ask" => Order::Channel(side(fields)?, OnChannel::Ask),
-        b"peek" => Order::Channel(side(fields)?, OnChannel::Peek(small(fields)?)),
+        b"peek" => Order::Channel(side(fields)?, OnChannel::Peek(number(fields)?)),
         b"put" => Order::Channel(side(fields)?, OnChannel::Put(fields.digits(16)?)),
         b"discard" => Order::Channel(side(fields)?, OnChannel::Discard),
-        b"sender" => Order::Fault(Fault::SenderLabel(byte(fields)?)),
-        b"receiver" => Order::Fault(Fault::ReceiverLabel(byte(fields)?)),
+        b"sender" => Order::Fault(Fault::SenderLabel(number(fields)?)),
+        b"receiver" => Order::Fault(Fault::ReceiverLabel(number(fields)?)),
         b"state" => Order::Fault(Fault::State(state(fields)?)),
         b"hand" => Order::Fault(Fault::Hand(fields.digits(9)?)),
         b"offer" => Order::Call(Call::Offer(fields.digits(9)?)),
-        b"spin" => Order::Call(Call::Spin(small(fields)?)),
+        b"send" => Order::Call(Call::Send),
+        b"hear" => Order::Call(Call::Hear),
+        b"settle" => Order::Call(Call::Settle),
+        b"tick" => Order::Call(Call::Tick),
+        b"round" => Order::Call(Call::Round),
+        b"spin" => Order::Spin(number(fields)?),
+        b"handover" => Order::Handover,
+        b"check" => Order::Question(Question::Check),
+        b"clean" => Order::Question(Question::Clean),
+        b"observer" => Order::Question(Question::Observer),
+        b"ends" => Order::Question(Question::Ends),
         _ => return None,
-    };
-    Some(order)
-}
-
-fn question(name: &[u8]) -> Option<Question> {
-    match name {
-        b"check" => Some(Question::Check),
-        b"clean" => Some(Question::Clean),
-        b"observer" => Some(Question::Observer),
-        b"ends" => Some(Question::Ends),
-        _ => None,
-    }
-}
-
-// The calls that take nothing.
-fn bare_call(name: &[u8]) -> Option<Call> {
-    match name {
-        b"send" => Some(Call::Send),
-        b"hear" => Some(Call::Hear),
-        b"settle" => Some(Call::Settle),
-        b"tick" => Some(Call::Tick),
-        b"round" => Some(Call::Round),
-        b"handover" => Some(Call::Handover),
-        _ => None,
-    }
+    })
 }
 
 fn side(fields: &mut Fields<'_>) -> Option<Side> {
@@ -110,11 +91,10 @@ fn state(fields: &mut Fields<'_>) -> Option<State> {
     }
 }
 
-// A number of 16 bits.
-fn small(fields: &mut Fields<'_>) -> Option<u16> {
-    u16::try_from(fields.number(65_535)?).ok()
-}
-
-fn byte(fields: &mut Fields<'_>) -> Option<u8> {
-    u8::try_from(fields.number(255)?).ok()
+// A number that its type holds.
+fn number<T: TryFrom<u64>>(fields: &mut Fields<'_>) -> Option<T>
+where
+    T::Error: Drop,
+{
+    T::try_from(fields.number(u64::MAX)?).ok()
 }

@@ -6,16 +6,16 @@ ghost use Rattle.channel.specs.Behaviours.{behaviour_of};
 ghost use Rattle.link.specs.States.{state_of};
 
 use super::Link;
-use super::parts::answers;
 use channel::Channel;
 use ends::decide;
-use records::{Fixed, RecordKind};
+use records::RecordKind;
 use wire::Refusal;
 
 impl<F: Channel, B: Channel, R: RecordKind> Link<F, B, R> {
     // Takes a record in hand under the next label; refused `busy` while an exchange is under way.
+    #[tactic(auto, using(recovery::specs::Steps::busy, crate::proofs::Performed::busy_state, crate::proofs::Performed::offer_done))]
     pub fn offer(&mut self, r: R::Record) -> Result<(), Refusal>
-        ensures { Offer (words_of R.RecordKind R.Number.Fixed) (behaviour_of F.Channel) (behaviour_of B.Channel) (state_of self.old) r result (state_of self.new) }
+        ensures { Offer (words_of R.RecordKind) (behaviour_of F.Channel) (behaviour_of B.Channel) (state_of self.old) r result (state_of self.new) }
     {
         if self.sender.is_busy() {
             return Err(Refusal::Busy);
@@ -25,8 +25,9 @@ impl<F: Channel, B: Channel, R: RecordKind> Link<F, B, R> {
     }
 
     // Puts the word of the record in hand on the forward channel; refused `idle` when none is under way.
+    #[tactic(auto, using(recovery::specs::Steps::idle, crate::proofs::Performed::idle_state))]
     pub fn send(&mut self) -> Result<(), Refusal>
-        ensures { Send (words_of R.RecordKind R.Number.Fixed) (behaviour_of F.Channel) (behaviour_of B.Channel) (state_of self.old) result (state_of self.new) }
+        ensures { Send (words_of R.RecordKind) (behaviour_of F.Channel) (behaviour_of B.Channel) (state_of self.old) result (state_of self.new) }
     {
         if !self.sender.is_busy() {
             return Err(Refusal::Idle);
@@ -38,26 +39,25 @@ impl<F: Channel, B: Channel, R: RecordKind> Link<F, B, R> {
     // Takes a word from the forward channel and acknowledges it; a new label is adopted and its record delivered.
     // Answers what was heard, and what the reply's put answered.
     pub fn hear(&mut self) -> (Result<(), Refusal>, Result<(), Refusal>)
-        ensures { Hear (words_of R.RecordKind R.Number.Fixed) (behaviour_of F.Channel) (behaviour_of B.Channel) (state_of self.old) result.0 result.1 (state_of self.new) }
+        ensures { Hear (words_of R.RecordKind) (behaviour_of F.Channel) (behaviour_of B.Channel) (state_of self.old) result.0 result.1 (state_of self.new) }
     {
         let Ok(word) = self.forward.take() else {
             return (Err(Refusal::Silent), Err(Refusal::Silent));
         };
-        let Some(message) = self.config.read_word(word) else {
+        let Some((label, r)) = self.config.read_word(word) else {
             return (Err(Refusal::Spoilt), Err(Refusal::Silent));
         };
-        let label = message.0;
         let reply = self.reply(label);
         if self.is_repeat(label) {
             return (Err(Refusal::Repeat), reply);
         }
-        self.deliver(label, message.1);
+        self.deliver(label, r);
         (Ok(()), reply)
     }
 
     // Takes an acknowledgement from the back channel. Under way and with the sender's label, it completes the exchange.
     pub fn settle(&mut self) -> Result<(), Refusal>
-        ensures { Settle (words_of R.RecordKind R.Number.Fixed) (behaviour_of F.Channel) (behaviour_of B.Channel) (state_of self.old) result (state_of self.new) }
+        ensures { Settle (words_of R.RecordKind) (behaviour_of F.Channel) (behaviour_of B.Channel) (state_of self.old) result (state_of self.new) }
     {
         let Ok(word) = self.back.take() else {
             return Err(Refusal::Silent);
@@ -66,26 +66,22 @@ impl<F: Channel, B: Channel, R: RecordKind> Link<F, B, R> {
             return Err(Refusal::Spoilt);
         };
         let own = self.config.read_label(self.sender.label);
-        match decide(self.sender.state, label, own) {
-            Ok(()) => {
-                self.rest();
-                let clean = self.is_clean();
-                self.observer = self.observer.after_exchange(clean);
-                Ok(())
-            }
-            Err(refusal) => Err(refusal),
-        }
+        decide(self.sender.state, label, own)?;
+        self.rest();
+        self.observer = self.observer.after_exchange(self.is_clean());
+        Ok(())
     }
 
     // One unit of time passes on both channels.
     pub fn tick(&mut self) -> Result<(), Refusal>
-        ensures { Ticks (words_of R.RecordKind R.Number.Fixed) (behaviour_of F.Channel) (behaviour_of B.Channel) (state_of self.old) result (state_of self.new) }
+        ensures { Ticks (words_of R.RecordKind) (behaviour_of F.Channel) (behaviour_of B.Channel) (state_of self.old) result (state_of self.new) }
     {
         self.pass_time();
         Ok(())
     }
 
     // Send, hear, settle and tick, in that order. Answers send's, hear's two and settle's answer.
+    #[tactic(auto, using(recovery::specs::Steps::in_turn))]
     pub fn round(
         &mut self,
     ) -> (
@@ -93,12 +89,12 @@ impl<F: Channel, B: Channel, R: RecordKind> Link<F, B, R> {
         (Result<(), Refusal>, Result<(), Refusal>),
         Result<(), Refusal>,
     )
-        ensures { Round (words_of R.RecordKind R.Number.Fixed) (behaviour_of F.Channel) (behaviour_of B.Channel) (state_of self.old) result.0 result.1.0 result.1.1 result.2 (state_of self.new) }
+        ensures { Round (words_of R.RecordKind) (behaviour_of F.Channel) (behaviour_of B.Channel) (state_of self.old) result.0 result.1.0 result.1.1 result.2 (state_of self.new) }
     {
         let sent = self.send();
         let heard = self.hear();
         let settled = self.settle();
         let _ = self.tick();
-        answers(sent, heard, settled)
+        (sent, heard, settled)
     }
 }

@@ -7,23 +7,17 @@ ghost use Rattle.link.specs.States.{state_of};
 
 use super::Link;
 use channel::Channel;
-use records::{Fixed, RecordKind};
+use records::RecordKind;
 
 impl<F: Channel, B: Channel, R: RecordKind> Link<F, B, R> {
     // Whether the sender is idle, the receiver has its label, and so has every word in sight that is not spoilt.
     pub fn is_clean(&self) -> bool
-        ensures { result ≡ clean (words_of R.RecordKind R.Number.Fixed) (behaviour_of F.Channel) (behaviour_of B.Channel) (state_of self.now) }
+        ensures { result ≡ clean (words_of R.RecordKind) (behaviour_of F.Channel) (behaviour_of B.Channel) (state_of self.now) }
     {
         let label = self.config.read_label(self.sender.label);
-        if self.sender.is_busy() {
-            return false;
-        }
-        if self.config.read_label(self.receiver.label) != label {
-            return false;
-        }
-        if !self.config.words_carry(&self.forward, label) {
-            return false;
-        }
-        self.config.acks_carry(&self.back, label)
+        !self.sender.is_busy()
+            && self.config.read_label(self.receiver.label) == label
+            && self.config.words_carry(&self.forward, label)
+            && self.config.acks_carry(&self.back, label)
     }
 }

@@ -1,12 +1,14 @@
-// Fault calls: what a brown-out may do to the ends and the wire. An accepted one starts the observer anew.
+// Fault calls: what a brown-out may do to the ends and the wire. An accepted one starts the observer anew. Each channel has calls of
+// its own, since the two are of two types: one call with a side as an argument would be a match over both.
 ghost use Rattle.std.specs.Prelude.{◌≡◌, Ok};
-ghost use Rattle.link.specs.Faults.{without_word, with_sender, with_receiver, RawForward, RawBack, DiscardForward, DiscardBack};
+ghost use Rattle.link.specs.Faults.{with_sender, with_receiver, RawForward, RawBack, DiscardForward, DiscardBack, Inflicted};
 ghost use Rattle.channel.specs.Behaviours.{behaviour_of};
 ghost use Rattle.link.specs.States.{state_of};
 
 use super::Link;
+use crate::calls::Fault;
 use channel::Channel;
-use ends::{Observer, State, after_fault};
+use ends::{Observer, State};
 use records::RecordKind;
 use wire::Refusal;
 
@@ -51,45 +53,51 @@ impl<F: Channel, B: Channel, R: RecordKind> Link<F, B, R> {
     pub fn put_forward(&mut self, word: u64) -> Result<(), Refusal>
         ensures { RawForward (behaviour_of F.Channel) (state_of self.old) word result (state_of self.new) }
     {
-        let answer = self.forward.put(word);
-        self.observer = after_fault(answer, self.observer);
-        answer
+        self.forward.put(word)?;
+        self.observer = Observer::new();
+        Ok(())
     }
 
     // Puts any word on the back channel; refused `full` as the put is.
     pub fn put_back(&mut self, word: u64) -> Result<(), Refusal>
         ensures { RawBack (behaviour_of B.Channel) (state_of self.old) word result (state_of self.new) }
     {
-        let answer = self.back.put(word);
-        self.observer = after_fault(answer, self.observer);
-        answer
+        self.back.put(word)?;
+        self.observer = Observer::new();
+        Ok(())
     }
 
     // Takes the forward channel's oldest word and lets it go; refused `silent` as the take is.
     pub fn discard_forward(&mut self) -> Result<(), Refusal>
         ensures { DiscardForward (behaviour_of F.Channel) (state_of self.old) result (state_of self.new) }
     {
-        let answer = discarded(self.forward.take());
-        self.observer = after_fault(answer, self.observer);
-        answer
+        self.forward.take()?;
+        self.observer = Observer::new();
+        Ok(())
     }
 
     // Takes the back channel's oldest word and lets it go; refused `silent` as the take is.
     pub fn discard_back(&mut self) -> Result<(), Refusal>
         ensures { DiscardBack (behaviour_of B.Channel) (state_of self.old) result (state_of self.new) }
     {
-        let answer = discarded(self.back.take());
-        self.observer = after_fault(answer, self.observer);
-        answer
+        self.back.take()?;
+        self.observer = Observer::new();
+        Ok(())
     }
-}
 
-// What a take answers to one who lets the word go.
-fn discarded(taken: Result<u64, Refusal>) -> Result<(), Refusal>
-    ensures { result ≡ without_word taken }
-{
-    match taken {
-        Ok(_) => Ok(()),
-        Err(refusal) => Err(refusal),
+    // The fault call that a value stands for.
+    pub fn inflict(&mut self, fault: Fault<R::Record>) -> Result<(), Refusal>
+        ensures { Inflicted (behaviour_of F.Channel) (behaviour_of B.Channel) (state_of self.old) fault result (state_of self.new) }
+    {
+        match fault {
+            Fault::SenderLabel(label) => self.set_sender_label(label),
+            Fault::ReceiverLabel(label) => self.set_receiver_label(label),
+            Fault::SenderState(state) => self.set_state(state),
+            Fault::InHand(r) => self.set_in_hand(r),
+            Fault::PutForward(word) => self.put_forward(word),
+            Fault::PutBack(word) => self.put_back(word),
+            Fault::DiscardForward => self.discard_forward(),
+            Fault::DiscardBack => self.discard_back(),
+        }
     }
 }

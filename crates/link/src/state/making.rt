@@ -11,7 +11,7 @@ use super::Link;
 use channel::Channel;
 use codec::{Config, MOST_LABELS};
 use ends::{Observer, Receiver, Sender};
-use records::{Fixed, RecordKind};
+use records::RecordKind;
 use wire::Refusal;
 
 // Whether a link can be made of two channels and a label count: refused `span` if a delay or a number of losses left
@@ -37,7 +37,8 @@ fn in_span<C: Channel>(channel: &C) -> bool
 }
 
 impl<F: Channel, B: Channel, R: RecordKind> Link<F, B, R> {
-    // A new link: both labels 0, idle, and the same record at both ends. It never refuses.
+    // A new link: both labels 0, idle, and the same record at both ends. It never refuses. What it is made of comes one by one: a struct
+    // of the five would be the link.
     pub fn new(kind: R, labels: u16, forward: F, back: B, first: R::Record) -> Link<F, B, R>
         ensures { Made kind labels forward back first (state_of result) }
     {
@@ -53,7 +54,7 @@ impl<F: Channel, B: Channel, R: RecordKind> Link<F, B, R> {
 
     // What `check` answers for the channels and the label count of this link.
     pub fn check(&self) -> Result<(), Refusal>
-        ensures { result ≡ checked_link (words_of R.RecordKind R.Number.Fixed) (behaviour_of F.Channel) (behaviour_of B.Channel) 256 (state_of self.now) }
+        ensures { result ≡ checked_link (words_of R.RecordKind) (behaviour_of F.Channel) (behaviour_of B.Channel) 256 (state_of self.now) }
     {
         check(&self.forward, &self.back, self.config.labels())
     }
@@ -61,7 +62,7 @@ impl<F: Channel, B: Channel, R: RecordKind> Link<F, B, R> {
     // From here on the observer counts anew, and nothing else changes. A link past its check recovers from here.
     pub fn handover(&mut self)
         ensures after { state_of self.new ≡ observed_anew (state_of self.old) }
-        ensures recovers { checked_link (words_of R.RecordKind R.Number.Fixed) (behaviour_of F.Channel) (behaviour_of B.Channel) 256 (state_of self.new) ≡ Ok tt → Recovers (words_of R.RecordKind R.Number.Fixed) (behaviour_of F.Channel) (behaviour_of B.Channel) (state_of self.new) }
+        ensures recovers { checked_link (words_of R.RecordKind) (behaviour_of F.Channel) (behaviour_of B.Channel) 256 (state_of self.new) ≡ Ok tt → Recovers (words_of R.RecordKind) (behaviour_of F.Channel) (behaviour_of B.Channel) (state_of self.new) }
     {
         self.count_anew();
     }

@@ -10,13 +10,13 @@ use super::Link;
 use channel::Channel;
 use codec::ack_word;
 use ends::Observer;
-use records::{Fixed, RecordKind};
+use records::RecordKind;
 use wire::Refusal;
 
 impl<F: Channel, B: Channel, R: RecordKind> Link<F, B, R> {
     // The label moves on by one, and the record is in hand and under way.
     pub(super) fn take_in_hand(&mut self, r: R::Record)
-        ensures { state_of self.new ≡ offered (words_of R.RecordKind R.Number.Fixed) (state_of self.old) r }
+        ensures { state_of self.new ≡ offered (words_of R.RecordKind) (state_of self.old) r }
     {
         let label = self.config.next_label(self.sender.label);
         self.sender.take_in_hand(label, r);
@@ -24,7 +24,7 @@ impl<F: Channel, B: Channel, R: RecordKind> Link<F, B, R> {
 
     // The word of the record in hand.
     pub(super) fn word_in_hand(&self) -> u64
-        ensures { result ≡ send_word R.Number.Fixed.worth (R.RecordKind.payload self.now.config.kind) (self.now.sender.label % self.now.config.labels) self.now.sender.in_hand }
+        ensures { result ≡ send_word R.RecordKind.NUMBER (R.RecordKind.payload self.now.config.kind) (self.now.sender.label % self.now.config.labels) self.now.sender.in_hand }
     {
         let label = self.config.read_label(self.sender.label);
         self.config.send_word(label, &self.sender.in_hand)
@@ -82,19 +82,4 @@ impl<F: Channel, B: Channel, R: RecordKind> Link<F, B, R> {
     {
         self.observer = Observer::new();
     }
-}
-
-// What a round answers, in the order of its calls.
-pub(super) fn answers(
-    sent: Result<(), Refusal>,
-    heard: (Result<(), Refusal>, Result<(), Refusal>),
-    settled: Result<(), Refusal>,
-) -> (
-    Result<(), Refusal>,
-    (Result<(), Refusal>, Result<(), Refusal>),
-    Result<(), Refusal>,
-)
-    ensures { result ≡ (sent, heard, settled) }
-{
-    (sent, heard, settled)
 }

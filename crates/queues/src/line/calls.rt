@@ -1,9 +1,11 @@
-ghost use Rattle.std.specs.Prelude.{◌≡◌, true, [], if◌then◌else◌, Ok, Err};
+ghost use Rattle.std.specs.Prelude.{◌≡◌, [], if◌then◌else◌, Ok, Err};
 ghost use Rattle.wire.specs.declared.refusal.Refusal.TheVariants.{Size};
 ghost use Rattle.queues.specs.Lines.{line_fits, line_capacity, line_delay, line_words, line_dues, line_means, line_behaviour};
 ghost use Rattle.queues.specs.LineRules.{line_rules};
 
-use super::DelayLine;
+use super::ticks::LAST;
+use super::{DelayLine, Timed};
+use crate::queue::Queue;
 use crate::ring::Ring;
 use channel::Channel;
 use wire::Refusal;
@@ -13,7 +15,8 @@ impl DelayLine {
     pub fn check(capacity: u16, delay: u16) -> Result<(), Refusal>
         ensures { result ≡ (if line_fits capacity delay then Ok tt else Err Size) }
     {
-        if capacity >= 1 && capacity <= 64 && delay <= 15 {
+        Ring::check(capacity)?;
+        if delay <= 15 {
             Ok(())
         } else {
             Err(Refusal::Size)
@@ -27,24 +30,14 @@ impl DelayLine {
         ensures capacity { result.queue.capacity ≡ line_capacity capacity delay }
         ensures delay { result.delay ≡ line_delay capacity delay }
     {
-        if DelayLine::check(capacity, delay).is_ok() {
-            DelayLine::empty(capacity, delay as u8)
+        let (capacity, delay) = if DelayLine::check(capacity, delay).is_ok() {
+            (capacity as usize, delay)
         } else {
-            DelayLine::empty(1, 0)
-        }
-    }
-
-    // An empty line of a capacity and a delay within the limits.
-    fn empty(capacity: u16, delay: u8) -> DelayLine
-        requires { line_fits capacity delay ≡ true }
-        ensures words { line_words result ≡ [] }
-        ensures dues { line_dues result ≡ [] }
-        ensures capacity { result.queue.capacity ≡ capacity }
-        ensures delay { result.delay ≡ delay }
-    {
+            (1, 0)
+        };
         DelayLine {
-            queue: Ring::new(capacity),
-            due: [0; 64],
+            queue: Queue::new(capacity),
+            ticks: 0,
             delay,
         }
     }
@@ -72,11 +65,11 @@ impl Channel for DelayLine {
     ghost rules = { line_rules };
 
     fn capacity(&self) -> u16 {
-        self.queue.capacity()
+        self.queue.capacity() as u16
     }
 
     fn delay(&self) -> u16 {
-        self.delay as u16
+        self.delay
     }
 
     fn losses(&self) -> u16 {
@@ -84,35 +77,49 @@ impl Channel for DelayLine {
     }
 
     fn load(&self) -> u16 {
-        self.queue.load()
+        self.queue.count() as u16
     }
 
     fn is_open(&self) -> bool {
-        self.queue.is_open()
+        self.queue.has_room()
     }
 
+    #[tactic(auto, using(crate::proofs::Peeks::looks))]
     fn peek(&self, at: u16) -> Result<u64, Refusal> {
-        self.queue.peek(at)
+        self.queue
+            .get(at as usize)
+            .map(|item| item.word)
+            .ok_or(Refusal::Place)
     }
 
     fn put(&mut self, word: u64) -> Result<(), Refusal> {
-        if self.queue.is_open() {
-            self.push(word);
+        if self.queue.has_room() {
+            self.queue.push(Timed {
+                word,
+                ready: self.ticks + self.delay,
+            });
             Ok(())
         } else {
             Err(Refusal::Full)
         }
     }
 
+    #[tactic(auto, using(crate::proofs::Dues::soon_rest))]
     fn take(&mut self) -> Result<u64, Refusal> {
-        if self.is_ready() {
-            Ok(self.pop())
-        } else {
-            Err(Refusal::Silent)
-        }
+        let item = self
+            .queue
+            .get(0)
+            .filter(|item| item.ready <= self.ticks)
+            .ok_or(Refusal::Silent)?;
+        self.queue.pop();
+        Ok(item.word)
     }
 
+    #[tactic(auto, using(crate::proofs::Dues::soon_later, crate::proofs::Dues::dues_later))]
     fn tick(&mut self) {
-        self.count_down();
+        if self.ticks == LAST {
+            self.restart();
+        }
+        self.ticks += 1;
     }
 }

@@ -4,6 +4,7 @@ ghost use Rattle.queues.specs.Rings.{ring_fits, ring_capacity, ring_words, ring_
 ghost use Rattle.queues.specs.RingRules.{ring_rules};
 
 use super::Ring;
+use crate::queue::Queue;
 use channel::Channel;
 use wire::Refusal;
 
@@ -22,7 +23,7 @@ impl Ring {
     // An empty ring of this capacity, or of capacity 1 where `check` refuses it.
     pub fn new(capacity: u16) -> Ring
         ensures words { ring_words result ≡ [] }
-        ensures capacity { result.capacity ≡ ring_capacity capacity }
+        ensures capacity { result.queue.capacity ≡ ring_capacity capacity }
     {
         let capacity = if Ring::check(capacity).is_ok() {
             capacity as usize
@@ -30,10 +31,7 @@ impl Ring {
             1
         };
         Ring {
-            words: [0; 64],
-            head: 0,
-            load: 0,
-            capacity,
+            queue: Queue::new(capacity),
         }
     }
 }
@@ -60,7 +58,7 @@ impl Channel for Ring {
     ghost rules = { ring_rules };
 
     fn capacity(&self) -> u16 {
-        self.capacity as u16
+        self.queue.capacity() as u16
     }
 
     fn delay(&self) -> u16 {
@@ -72,25 +70,21 @@ impl Channel for Ring {
     }
 
     fn load(&self) -> u16 {
-        self.count() as u16
+        self.queue.count() as u16
     }
 
     fn is_open(&self) -> bool {
-        self.count() < self.capacity
+        self.queue.has_room()
     }
 
+    #[tactic(auto, using(crate::proofs::Peeks::looks))]
     fn peek(&self, at: u16) -> Result<u64, Refusal> {
-        let position = at as usize;
-        if position < self.count() {
-            Ok(self.word(position))
-        } else {
-            Err(Refusal::Place)
-        }
+        self.queue.get(at as usize).ok_or(Refusal::Place)
     }
 
     fn put(&mut self, word: u64) -> Result<(), Refusal> {
-        if self.count() < self.capacity {
-            self.push(word);
+        if self.queue.has_room() {
+            self.queue.push(word);
             Ok(())
         } else {
             Err(Refusal::Full)
@@ -98,11 +92,7 @@ impl Channel for Ring {
     }
 
     fn take(&mut self) -> Result<u64, Refusal> {
-        if self.count() > 0 {
-            Ok(self.pop())
-        } else {
-            Err(Refusal::Silent)
-        }
+        self.queue.pop().ok_or(Refusal::Silent)
     }
 
     fn tick(&mut self) {}

@@ -5,7 +5,6 @@ ghost use Rattle.std.proofs.Common.{rules};
 
 use super::values::in_range;
 use super::{Reading, Side};
-use records::fixed::Byte;
 use records::kind::RecordKind;
 use wire::Refusal;
 use wire::bits::{join, low};
@@ -15,19 +14,19 @@ use wire::bits::{join, low};
 pub struct Readings;
 
 impl RecordKind for Readings {
-    type Number = Byte<2>;
-
-    type Letter = Byte<b'G'>;
-
-    const NUMBER: Byte<2> = Byte { value: 2 };
-
-    const LETTER: Byte<b'G'> = Byte { value: b'G' };
-
     type Record = Reading;
+
+    ghost NUMBER = { 2 };
+
+    ghost LETTER = { 71 };
 
     ghost payload = { λ k r. reading_payload r };
 
     ghost reads = { λ k p. reading_reads p };
+
+    const NUMBER: u8 = 2;
+
+    const LETTER: u8 = b'G';
 
     ghost numbered = { Prim.search rules };
 
@@ -49,10 +48,7 @@ impl RecordKind for Readings {
         let axle = p >> 32;
         let force = low(p >> 15, 16);
         let pressure = low(p >> 3, 12);
-        if spare_in(p) != 0 {
-            return Err(Refusal::Code);
-        }
-        if !in_range(axle, force, pressure) {
+        if spare_in(p) != 0 || !in_range(axle, force, pressure) {
             return Err(Refusal::Code);
         }
         Ok(Reading {

@@ -11,13 +11,10 @@ impl Side {
     pub fn bit(self) -> u64
         ensures { result ≡ side_bit self }
     {
-        match self {
-            Side::Left => 0,
-            Side::Right => 1,
-        }
+        self as u64
     }
 
-    // The side of a bit; any number but 0 is right.
+    // The side of a bit; any number but 0 is right, which no derive gives.
     pub fn of_bit(bit: u64) -> Side
         ensures { result ≡ side_of bit }
     {

@@ -92,7 +92,8 @@ impl<U: Channel, L: Channel> Channel for Relay<U, L> {
         self.upper.is_open()
     }
 
-    // The lower is asked first, and not for its load, which may be more than it can answer.
+    // The lower is asked first, and not for its load, which may be more than it can answer. By a match: that the position is
+    // past the lower's words is known only where the lower refuses, and no proof was found of it inside a closure of `or_else`.
     fn peek(&self, at: u16) -> Result<u64, Refusal> {
         match self.lower.peek(at) {
             Ok(word) => Ok(word),

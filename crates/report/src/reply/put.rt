@@ -1,99 +1,87 @@
 // The text of an answer, on a page.
-ghost use Rattle.std.specs.Prelude.{◌≡◌, ◌+◌, ◌≤◌, length, decimal};
-ghost use Rattle.wire.specs.Refusals.{answer_of};
-ghost use Rattle.report.specs.Pages.{Wrote};
+ghost use Rattle.std.specs.Prelude.{◌≡◌, ◌+◌, ◌≤◌};
+ghost use Rattle.report.specs.Pages.{HasRoom, Put};
 ghost use Rattle.report.specs.Replies.{number_text, record_text, reply_text, reply_room, sound_text};
 
 use super::Reply;
-use crate::page::{put_byte, put_decimal, put_nine, put_small, put_text};
+use crate::page::Page;
 use ends::Observer;
-use wire::Refusal;
+use wire::{Refusal, answer_number};
 
-// The table's number of an answer; 0 is done.
-fn number_of(answer: Result<(), Refusal>) -> u8
-    ensures value { result ≡ answer_of answer }
-    ensures small { result ≤ 14 }
-{
-    match answer {
-        Ok(()) => 0,
-        Err(refusal) => refusal.number(),
+impl Page<'_> {
+    // A line of the report.
+    pub(crate) fn put_reply(&mut self, reply: Reply)
+        requires { HasRoom self.old (reply_room reply) }
+        ensures text { Put self.old (reply_text reply) self.new }
+        ensures short { self.new.length ≤ self.old.length + reply_room reply }
+    {
+        match reply {
+            Reply::One(letter, answer) => {
+                self.put_byte(letter);
+                self.put_number(answer);
+            }
+            Reply::Hear {
+                heard,
+                reply,
+                payload,
+            } => {
+                self.put_byte(b'h');
+                self.put_number(heard);
+                self.put_number(reply);
+                self.put_record(heard, payload);
+            }
+            Reply::Round {
+                sent,
+                heard,
+                reply,
+                settled,
+                payload,
+            } => {
+                self.put_byte(b'r');
+                self.put_number(sent);
+                self.put_number(heard);
+                self.put_number(reply);
+                self.put_number(settled);
+                self.put_record(heard, payload);
+            }
+        }
+        self.put_byte(b'\n');
     }
-}
 
-// The number of an answer behind a space.
-fn put_number(page: &mut [u8], at: usize, answer: Result<(), Refusal>) -> usize
-    requires { at + 3 ≤ length page.old }
-    ensures text { Wrote page.old at (number_text answer) page.new result }
-    ensures short { result ≤ at + 3 }
-{
-    let number = number_of(answer);
-    let after = put_byte(page, at, b' ');
-    put_small(page, after, number)
-}
-
-// After a delivery, the nine digits of the record behind a space.
-fn put_record(page: &mut [u8], at: usize, heard: Result<(), Refusal>, payload: u64) -> usize
-    requires { at + 10 ≤ length page.old }
-    ensures text { Wrote page.old at (record_text heard payload) page.new result }
-    ensures short { result ≤ at + 10 }
-{
-    match heard {
-        Ok(()) => {
-            let after = put_byte(page, at, b' ');
-            put_nine(page, after, payload)
-        }
-        Err(_) => at,
+    // The number of an answer behind a space.
+    #[tactic(auto, using(crate::proofs::Writing::two_long))]
+    fn put_number(&mut self, answer: Result<(), Refusal>)
+        requires { HasRoom self.old 3 }
+        ensures text { Put self.old (number_text answer) self.new }
+        ensures short { self.new.length ≤ self.old.length + 3 }
+    {
+        self.put_byte(b' ');
+        self.put_decimal(answer_number(&answer) as u16);
     }
-}
 
-// A line of the report.
-pub(crate) fn put_reply(page: &mut [u8], start: usize, reply: Reply) -> usize
-    requires { start + reply_room reply ≤ length page.old }
-    ensures text { Wrote page.old start (reply_text reply) page.new result }
-    ensures short { result ≤ start + reply_room reply }
-{
-    match reply {
-        Reply::One(letter, answer) => {
-            let first = put_byte(page, start, letter);
-            let end = put_number(page, first, answer);
-            put_byte(page, end, b'\n')
-        }
-        Reply::Hear(heard, reply, payload) => {
-            let first = put_byte(page, start, b'h');
-            let second = put_number(page, first, heard);
-            let third = put_number(page, second, reply);
-            let end = put_record(page, third, heard, payload);
-            put_byte(page, end, b'\n')
-        }
-        Reply::Round(sent, heard, reply, settled, payload) => {
-            let first = put_byte(page, start, b'r');
-            let second = put_number(page, first, sent);
-            let third = put_number(page, second, heard);
-            let fourth = put_number(page, third, reply);
-            let fifth = put_number(page, fourth, settled);
-            let end = put_record(page, fifth, heard, payload);
-            put_byte(page, end, b'\n')
+    // After a delivery, the nine digits of the record behind a space.
+    fn put_record(&mut self, heard: Result<(), Refusal>, payload: u64)
+        requires { HasRoom self.old 10 }
+        ensures text { Put self.old (record_text heard payload) self.new }
+        ensures short { self.new.length ≤ self.old.length + 10 }
+    {
+        if heard.is_ok() {
+            self.put_byte(b' ');
+            self.put_hex::<9>(payload);
         }
     }
-}
 
-fn put_count(page: &mut [u8], at: usize, n: u16) -> usize
-    requires { at + 5 ≤ length page.old }
-    ensures text { Wrote page.old at (decimal n) page.new result }
-    ensures short { result ≤ at + 5 }
-{
-    put_decimal(page, at, n)
-}
-
-// The last line of the report.
-pub(crate) fn put_sound(page: &mut [u8], start: usize, observer: Observer) -> usize
-    requires { start + 21 ≤ length page.old }
-    ensures text { Wrote page.old start (sound_text observer) page.new result }
-    ensures short { result ≤ start + 21 }
-{
-    let first = put_text(page, start, b"sound ");
-    let second = put_count(page, first, observer.first);
-    let third = put_text(page, second, b" of ");
-    let end = put_count(page, third, observer.completed);
-    put_byte(page, end, b'\n')
+    // The last line of the report.
+    #[tactic(auto, using(crate::proofs::Writing::five_long))]
+    pub(crate) fn put_sound(&mut self, observer: Observer)
+        requires { HasRoom self.old 21 }
+        ensures text { Put self.old (sound_text observer) self.new }
+        ensures short { self.new.length ≤ self.old.length + 21 }
+    {
+        self.put_text(b"sound ");
+        self.put_decimal(observer.first);
+        self.put_text(b" of ");
+        self.put_decimal(observer.completed);
+        self.put_byte(b'\n');
+    }
 }

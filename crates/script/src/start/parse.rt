@@ -1,10 +1,10 @@
-ghost use Rattle.std.specs.Prelude.{◌≡◌, length};
+ghost use Rattle.std.specs.Prelude.{◌≡◌};
 ghost use Rattle.script.specs.Starts.{setup_of, kind_of, label_count, start_from, start_of};
 
 use super::{Kind, Setup, Start};
 use commands::Commands;
 use readings::Readings;
-use records::{Fixed, RecordKind};
+use records::RecordKind;
 use text::hex::parse_hex;
 use wire::Refusal;
 
@@ -16,31 +16,24 @@ pub fn parse_start(line: &[u8]) -> Result<Start, Refusal>
         [b'P', b' ', setup, b' ', letter, b' ', high, low] => start_from(
             *setup,
             *letter,
-            &[*high, *low],
+            [*high, *low],
         ),
         _ => Err(Refusal::Script),
     }
 }
 
 // By the set-up's digit, the kind's letter, and the two digits of the label count.
-fn start_from(setup: u8, letter: u8, digits: &[u8]) -> Result<Start, Refusal>
-    requires { length digits.now ≡ 2 }
-    ensures { result ≡ start_from (setup_of setup) (kind_of letter) (label_count digits.now) }
+fn start_from(setup: u8, letter: u8, digits: [u8; 2]) -> Result<Start, Refusal>
+    ensures { result ≡ start_from (setup_of setup) (kind_of letter) (label_count digits) }
 {
-    let Some(setup) = setup_of(setup) else {
-        return Err(Refusal::Script);
-    };
-    let Some(kind) = kind_of(letter) else {
-        return Err(Refusal::Script);
-    };
-    match label_count(digits) {
-        Some(labels) => Ok(Start {
-            setup,
-            kind,
-            labels,
-        }),
-        None => Err(Refusal::Script),
-    }
+    let setup = setup_of(setup).ok_or(Refusal::Script)?;
+    let kind = kind_of(letter).ok_or(Refusal::Script)?;
+    let labels = label_count(digits).ok_or(Refusal::Script)?;
+    Ok(Start {
+        setup,
+        kind,
+        labels,
+    })
 }
 
 fn setup_of(digit: u8) -> Option<Setup>
@@ -57,23 +50,19 @@ fn setup_of(digit: u8) -> Option<Setup>
 fn kind_of(letter: u8) -> Option<Kind>
     ensures { result ≡ kind_of letter }
 {
-    if letter == Commands::LETTER.value() {
-        return Some(Kind::Commands);
+    match letter {
+        Commands::LETTER => Some(Kind::Commands),
+        Readings::LETTER => Some(Kind::Readings),
+        _ => None,
     }
-    if letter == Readings::LETTER.value() {
-        return Some(Kind::Readings);
-    }
-    None
 }
 
 // How many labels two digits ask for: 00 is 256.
-fn label_count(digits: &[u8]) -> Option<u16>
-    requires { length digits.now ≡ 2 }
-    ensures { result ≡ label_count digits.now }
+fn label_count(digits: [u8; 2]) -> Option<u16>
+    ensures { result ≡ label_count digits }
 {
-    match parse_hex(digits) {
-        Some(0) => Some(256),
-        Some(n) => Some(n as u16),
-        None => None,
+    match parse_hex(&digits)? {
+        0 => Some(256),
+        n => u16::try_from(n).ok(),
     }
 }

@@ -57,10 +57,7 @@ impl Channel for Pigeonhole {
     }
 
     fn load(&self) -> u16 {
-        match self.word {
-            Some(_) => 1,
-            None => 0,
-        }
+        self.word.is_some() as u16
     }
 
     fn is_open(&self) -> bool {
@@ -68,10 +65,7 @@ impl Channel for Pigeonhole {
     }
 
     fn peek(&self, at: u16) -> Result<u64, Refusal> {
-        match self.word {
-            Some(word) if at == 0 => Ok(word),
-            _ => Err(Refusal::Place),
-        }
+        self.word.filter(|_| at == 0).ok_or(Refusal::Place)
     }
 
     fn put(&mut self, word: u64) -> Result<(), Refusal> {

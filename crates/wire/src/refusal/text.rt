@@ -1,5 +1,5 @@
-ghost use Rattle.std.specs.Prelude.{◌≡◌, Some};
-ghost use Rattle.wire.specs.Refusals.{number_of, name_of};
+ghost use Rattle.std.specs.Prelude.{◌≡◌, ◌≤◌, Some};
+ghost use Rattle.wire.specs.Refusals.{number_of, name_of, answer_of};
 
 use super::Refusal;
 use std::fmt;
@@ -32,6 +32,17 @@ impl Refusal {
             Refusal::Place => "place",
             Refusal::Page => "page",
         }
+    }
+}
+
+// An answer by the table's number: 0 where it is no refusal.
+pub fn answer_number<T>(answer: &Result<T, Refusal>) -> u8
+    ensures value { result ≡ answer_of answer.now }
+    ensures within { result ≤ 14 }
+{
+    match answer {
+        Ok(_) => 0,
+        Err(refusal) => refusal.number(),
     }
 }
 

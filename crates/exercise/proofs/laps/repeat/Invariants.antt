@@ -8,4 +8,4 @@ use Rattle.exercise.proofs.laps.repeat.Given as goal
 abbrev pub invariant-loop-turn : goal.invariant-loop-turn
 invariant-loop-turn g l =
     model_of g.F.Shaped.shape g.B.Shaped.shape l.link
-    ≡ laps (words_of g.R.RecordKind g.R.Number.Fixed) l._turn (model_of g.F.Shaped.shape g.B.Shaped.shape l.initial.link) l.«record»
+    ≡ laps (words_of g.R.RecordKind) l._turn (model_of g.F.Shaped.shape g.B.Shaped.shape l.initial.link) l.«record»

@@ -5,7 +5,7 @@ use Rattle.model.proofs.computed.round.Goals as goal
 
 pub returns : goal.returns
 returns g c =
-    let words = codec g.R.Number.Fixed.worth g.R.RecordKind.payload g.R.RecordKind.reads in
+    let words = codec g.R.RecordKind.NUMBER g.R.RecordKind.payload g.R.RecordKind.reads in
     let is = round_is words g.met.F.Shaped.moves g.met.B.Shaped.moves c.round.ensures in
     record {
       sent = is.0;

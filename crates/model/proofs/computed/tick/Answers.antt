@@ -5,7 +5,7 @@ use Rattle.model.proofs.computed.tick.Goals as goal
 
 pub returns : goal.returns
 returns g c =
-    let words = codec g.R.Number.Fixed.worth g.R.RecordKind.payload g.R.RecordKind.reads in
+    let words = codec g.R.RecordKind.NUMBER g.R.RecordKind.payload g.R.RecordKind.reads in
     let is = tick_is words g.met.F.Shaped.moves g.met.B.Shaped.moves c.tick.ensures in
     record {
       answer = is.0;

@@ -10,7 +10,7 @@ use Rattle.model.proofs.running.run.Given as goal
 -- the calls so far
 abbrev pub invariant-loop-call : goal.invariant-loop-call
 invariant-loop-call g l =
-    let words = codec g.R.Number.Fixed.worth g.R.RecordKind.payload g.R.RecordKind.reads in
+    let words = codec g.R.RecordKind.NUMBER g.R.RecordKind.payload g.R.RecordKind.reads in
     let start = shaped_state g.F.Shaped.shape g.B.Shaped.shape (state_of l.initial.link) in
     (shaped_state g.F.Shaped.shape g.B.Shaped.shape (state_of l.link) ≡ after_all words start (take l.call-index l.calls))
     × Run words (behaviour_of g.F.Channel) (behaviour_of g.B.Channel) (state_of l.initial.link) (events_all words start (take l.call-index l.calls)) (state_of l.link)

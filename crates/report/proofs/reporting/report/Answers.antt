@@ -2,13 +2,14 @@ use Rattle.report.proofs.Recovering.{script_recovers}
 use Rattle.report.proofs.ReportLaws.{one_more, ends-sound, stays}
 use Rattle.report.proofs.reporting.report.Goals as goal
 
-pub returns : goal.returns
-returns c = record {
-  answer = c.put_if_fits.ensures.answer;
-  page = c.put_if_fits.ensures.page;
-  short = c.put_if_fits.ensures.short;
-  lines = one_more c.args.script.now;
-  sound = ends-sound c.args.script.now;
-  recovers = script_recovers c.args.script.now;
-  stays = stays c.args.script.now;
-}
+pub returns-clause-lines : goal.returns-clause-lines
+returns-clause-lines c = one_more c.args.script.now
+
+pub returns-clause-sound : goal.returns-clause-sound
+returns-clause-sound c = ends-sound c.args.script.now
+
+pub returns-clause-recovers : goal.returns-clause-recovers
+returns-clause-recovers c = script_recovers c.args.script.now
+
+pub returns-clause-stays : goal.returns-clause-stays
+returns-clause-stays c = stays c.args.script.now

@@ -1,30 +1,21 @@
-use Rattle.std.proofs.Common.{Result, ap, ◌∙◌, arith}
-use Rattle.wire.specs.declared.refusal.Refusal.{Refusal}
-use Rattle.script.specs.declared.order.Order.{Order}
-use Rattle.text.specs.Lines.{lines_of}
-use Rattle.model.specs.Models.{model_of}
-use Rattle.report.specs.Lines.{answered}
+use Rattle.std.proofs.Common.{ap, ◌∙◌, arith}
 use Rattle.report.specs.Rooms.{bytes_in}
-use Rattle.report.proofs.Runs.{reply-fits, line-more, last_line}
+use Rattle.report.proofs.Runs.{at_first, reply-fits, line-more, last_line}
 use Rattle.report.proofs.run.run.Goals as goal
 
-pub put_reply-at-requires : goal.put_reply-at-requires
-put_reply-at-requires g c =
-    let is = c.answer-reply.ensures ∙ ap (λ (o : Result Order Refusal). answered g.R.Number.Fixed.worth g.R.RecordKind.payload g.R.RecordKind.reads o (model_of g.F.Shaped.shape g.B.Shaped.shape c.loop-line.link)) c.parse_line.ensures in
-    omega (arith, reply-fits g.R.Number.Fixed.worth g.R.RecordKind.payload g.R.RecordKind.reads c.in-Some.line.now c.answer-reply.result _ _ is, ap bytes_in c.in-Some.ensures.lines, c.loop-line.invariant.1)
+pub loop-line-init : goal.loop-line-init
+loop-line-init g c = rw (c.into_iter-line-iterator.ensures.into_iter_gives ∙ c.new-line-items.ensures) (record { text = at_first c.args.page.now _ (omega (arith, c.requires)); short = omega arith })
 
 pub loop-line-preserved : goal.loop-line-preserved
 loop-line-preserved g c =
-    let is = c.answer-reply.ensures ∙ ap (λ (o : Result Order Refusal). answered g.R.Number.Fixed.worth g.R.RecordKind.payload g.R.RecordKind.reads o (model_of g.F.Shaped.shape g.B.Shaped.shape c.loop-line.link)) c.parse_line.ensures in (
-      line-more g.R.Number.Fixed.worth g.R.RecordKind.payload g.R.RecordKind.reads c.in-Some.line.now (lines_of c.loop-line.rest.now) (lines_of c.in-Some.after.now) c.answer-reply.result _ _ is
-          c.in-Some.ensures.lines c.put_reply-at.ensures.text c.loop-line.invariant.0,
-      omega (arith, reply-fits g.R.Number.Fixed.worth g.R.RecordKind.payload g.R.RecordKind.reads c.in-Some.line.now c.answer-reply.result _ _ is, ap bytes_in c.in-Some.ensures.lines, c.loop-line.invariant.1, c.put_reply-at.ensures.short),
-    )
+    let line = c.in-Some.line.now in
+    let is = rw c.parse_line.ensures at c.answer.ensures in
+    record {
+      text = line-more g.R.RecordKind.NUMBER g.R.RecordKind.payload g.R.RecordKind.reads line _ _ c.answer.result _ _ is c.in-Some.ensures.steps c.put_reply.ensures.text c.loop-line.invariant.text;
+      short = omega (arith, reply-fits g.R.RecordKind.NUMBER g.R.RecordKind.payload g.R.RecordKind.reads line c.answer.result _ _ is, ap bytes_in c.in-Some.ensures.steps, c.loop-line.invariant.short, c.put_reply.ensures.short);
+    }
 
-pub returns : goal.returns
-returns g c = record {
-  text =
-      last_line g.R.Number.Fixed.worth g.R.RecordKind.payload g.R.RecordKind.reads (lines_of c.loop-line.rest.now) c.observer.result (model_of g.F.Shaped.shape g.B.Shaped.shape c.loop-line.link) (omega arith)
-      c.in_default.ensures.lines c.observer.ensures c.put_sound.ensures.text c.loop-line.invariant.0;
-  short = omega (arith, c.loop-line.invariant.1, c.put_sound.ensures.short);
-}
+pub returns-clause-text : goal.returns-clause-text
+returns-clause-text g c =
+    rw c.hand_over.ensures.after at
+    (last_line g.R.RecordKind.NUMBER g.R.RecordKind.payload g.R.RecordKind.reads _ c.observer.result _ c.in-None.ensures.steps.0 c.observer.ensures c.put_sound.ensures.text c.loop-line.invariant.text)

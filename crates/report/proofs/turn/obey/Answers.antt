@@ -1,42 +1,26 @@
 -- What a call did, and which order asked for it.
-use Rattle.std.proofs.Common.{sym, ap, ◌∙◌}
-use Rattle.script.specs.declared.order.Order.{Order}
-use Rattle.model.specs.Models.{model_of}
-use Rattle.report.specs.Lines.{obeyed}
 use Rattle.report.proofs.Turns.{send-line, hear-line, settle-line, tick-line, round-line, forward-line, back-line}
 use Rattle.report.proofs.turn.obey.Goals as goal
 
 pub returns-in-Send : goal.returns-in-Send
-returns-in-Send g c =
-    send-line g.R.Number.Fixed.worth g.R.RecordKind.payload g.R.RecordKind.reads g.met.F.Shaped.moves g.met.B.Shaped.moves _ _ c.send.result c.send.ensures
-    ∙ ap (λ (o : Order). obeyed g.R.Number.Fixed.worth g.R.RecordKind.payload g.R.RecordKind.reads o (model_of g.F.Shaped.shape g.B.Shaped.shape c.args.link.now)) (sym c.in-Send.is)
+returns-in-Send g c = rw c.in-Send.is (send-line _ _ _ g.met.F.Shaped.moves g.met.B.Shaped.moves _ _ c.send.result c.send.ensures)
 
 pub returns-in-Hear : goal.returns-in-Hear
-returns-in-Hear g c =
-    hear-line g.R.Number.Fixed.worth g.R.RecordKind.payload g.R.RecordKind.reads g.met.F.Shaped.moves g.met.B.Shaped.moves _ _ c.hear-heard.result.0 c.hear-heard.result.1 c.held.result c.held.ensures c.hear-heard.ensures
-    ∙ ap (λ (o : Order). obeyed g.R.Number.Fixed.worth g.R.RecordKind.payload g.R.RecordKind.reads o (model_of g.F.Shaped.shape g.B.Shaped.shape c.args.link.now)) (sym c.in-Hear.is)
+returns-in-Hear g c = rw c.in-Hear.is (hear-line _ _ _ g.met.F.Shaped.moves g.met.B.Shaped.moves _ _ c.hear-heard.result.0 c.hear-heard.result.1 c.held.result c.held.ensures c.hear-heard.ensures)
 
 pub returns-in-Settle : goal.returns-in-Settle
-returns-in-Settle g c =
-    settle-line g.R.Number.Fixed.worth g.R.RecordKind.payload g.R.RecordKind.reads g.met.F.Shaped.moves g.met.B.Shaped.moves _ _ c.settle.result c.settle.ensures
-    ∙ ap (λ (o : Order). obeyed g.R.Number.Fixed.worth g.R.RecordKind.payload g.R.RecordKind.reads o (model_of g.F.Shaped.shape g.B.Shaped.shape c.args.link.now)) (sym c.in-Settle.is)
+returns-in-Settle g c = rw c.in-Settle.is (settle-line _ _ _ g.met.F.Shaped.moves g.met.B.Shaped.moves _ _ c.settle.result c.settle.ensures)
 
 pub returns-in-Tick : goal.returns-in-Tick
-returns-in-Tick g c =
-    tick-line g.R.Number.Fixed.worth g.R.RecordKind.payload g.R.RecordKind.reads g.met.F.Shaped.moves g.met.B.Shaped.moves _ _ c.tick.result c.tick.ensures
-    ∙ ap (λ (o : Order). obeyed g.R.Number.Fixed.worth g.R.RecordKind.payload g.R.RecordKind.reads o (model_of g.F.Shaped.shape g.B.Shaped.shape c.args.link.now)) (sym c.in-Tick.is)
+returns-in-Tick g c = rw c.in-Tick.is (tick-line _ _ _ g.met.F.Shaped.moves g.met.B.Shaped.moves _ _ c.tick.result c.tick.ensures)
 
 pub returns-in-Round : goal.returns-in-Round
 returns-in-Round g c =
-    round-line g.R.Number.Fixed.worth g.R.RecordKind.payload g.R.RecordKind.reads g.met.F.Shaped.moves g.met.B.Shaped.moves _ _ c.round-sent.result.0 c.round-sent.result.1.0 c.round-sent.result.1.1 c.round-sent.result.2 c.held-in-Round.result c.held-in-Round.ensures c.round-sent.ensures
-    ∙ ap (λ (o : Order). obeyed g.R.Number.Fixed.worth g.R.RecordKind.payload g.R.RecordKind.reads o (model_of g.F.Shaped.shape g.B.Shaped.shape c.args.link.now)) (sym c.in-Round.is)
+    let r = c.round-sent.result in
+    rw c.in-Round.is (round-line _ _ _ g.met.F.Shaped.moves g.met.B.Shaped.moves _ _ r.0 r.1.0 r.1.1 r.2 c.held-in-Round.result c.held-in-Round.ensures c.round-sent.ensures)
 
 pub returns-in-RawForward : goal.returns-in-RawForward
-returns-in-RawForward g c =
-    forward-line g.R.Number.Fixed.worth g.R.RecordKind.payload g.R.RecordKind.reads g.met.F.Shaped.moves g.met.B.Shaped.moves _ _ c.in-RawForward.word c.put_forward-answer.result c.handed_over-in-RawForward.result _ c.handed_over-in-RawForward.ensures.reply c.handed_over-in-RawForward.ensures.after c.put_forward-answer.ensures
-    ∙ ap (λ (o : Order). obeyed g.R.Number.Fixed.worth g.R.RecordKind.payload g.R.RecordKind.reads o (model_of g.F.Shaped.shape g.B.Shaped.shape c.args.link.now)) (sym c.in-RawForward.is)
+returns-in-RawForward g c = rw c.in-RawForward.is (forward-line g.R.RecordKind.NUMBER g.R.RecordKind.payload g.R.RecordKind.reads g.met.F.Shaped.moves g.met.B.Shaped.moves _ _ c.in-RawForward.word c.put_forward.result c.put_forward.ensures)
 
 pub returns-in-RawBack : goal.returns-in-RawBack
-returns-in-RawBack g c =
-    back-line g.R.Number.Fixed.worth g.R.RecordKind.payload g.R.RecordKind.reads g.met.F.Shaped.moves g.met.B.Shaped.moves _ _ c.in-RawBack.word c.put_back-answer.result c.handed_over-in-RawBack.result _ c.handed_over-in-RawBack.ensures.reply c.handed_over-in-RawBack.ensures.after c.put_back-answer.ensures
-    ∙ ap (λ (o : Order). obeyed g.R.Number.Fixed.worth g.R.RecordKind.payload g.R.RecordKind.reads o (model_of g.F.Shaped.shape g.B.Shaped.shape c.args.link.now)) (sym c.in-RawBack.is)
+returns-in-RawBack g c = rw c.in-RawBack.is (back-line g.R.RecordKind.NUMBER g.R.RecordKind.payload g.R.RecordKind.reads g.met.F.Shaped.moves g.met.B.Shaped.moves _ _ c.in-RawBack.word c.put_back.result c.put_back.ensures)

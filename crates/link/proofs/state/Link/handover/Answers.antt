@@ -10,8 +10,8 @@ pub returns : goal.returns
 returns g c =
     let m = c.count_anew.new.self in
     let kind = g.R.RecordKind in
-    let words = codec g.R.Number.Fixed.worth kind.payload kind.reads in
-    let laws = word_laws g.R.Number.Fixed.worth kind.payload kind.reads g.met.R.RecordKind.numbered.1 g.met.R.RecordKind.small g.met.R.RecordKind.back m.config in
+    let words = codec g.R.RecordKind.NUMBER kind.payload kind.reads in
+    let laws = word_laws g.R.RecordKind.NUMBER kind.payload kind.reads g.met.R.RecordKind.numbered.1 g.met.R.RecordKind.small g.met.R.RecordKind.back m.config in
     record {
       after = c.count_anew.ensures;
       recovers = λ passed.
