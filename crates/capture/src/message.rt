@@ -18,7 +18,8 @@ pub struct Message {
     pub content: Content,
 }
 
-// Why a line of a capture carries nothing. Kinds are by their numbers: a word may have any of sixteen, and most have no name.
+// Why a line of a capture carries nothing. Kinds are by their numbers: a word may have any of sixteen, most of which have no name, and
+// what is no record is found by code that is generic in the kind.
 #[derive(Clone, Copy, PartialEq, Eq, Debug)]
 pub enum Fault {
     NoWord,

@@ -15,14 +15,11 @@ fn word_fits<L: Fn(u64) -> Option<u8>>(label: u8, bits: u64, label_in: &L) -> bo
     requires { L.IsAlwaysCallable label_in.now }
     ensures { (read : ℕ → Option ℕ) → Computes (L.post label_in.now) read → result ≡ fits label (read bits) }
 {
-    match label_in(bits) {
-        Some(other) => other == label,
-        None => true,
-    }
+    label_in(bits).is_none_or(|other| other == label)
 }
 
 // Whether every word in sight is spoilt or carries this label, by the label that is read from each. A channel shows its words by their
-// positions.
+// positions, and a peek may refuse: `all` over the positions would say the same with a closure in a closure.
 fn words_fit<C: Channel, L: Fn(u64) -> Option<u8>>(channel: &C, label: u8, label_in: L) -> bool
     requires { L.IsAlwaysCallable label_in }
     ensures { (read : ℕ → Option ℕ) → Computes (L.post label_in) read → result ≡ all_fit read label (in_sight ((behaviour_of C.Channel).means channel.now)) }

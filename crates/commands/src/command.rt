@@ -5,7 +5,8 @@ pub mod kind;
 pub mod text;
 pub mod values;
 
-// A command that the table takes. Its code stays a number, since the table says by codes what arguments there are; `action` names it.
+// A command that the table takes. Its code stays a number and `action` names it: an enum with the arguments in its variants would say
+// once more what the table says.
 #[derive(Clone, Copy, PartialEq, Eq, Debug)]
 pub struct Command {
     code: u8,

@@ -5,7 +5,7 @@ pub mod calls;
 
 use commands::Command;
 
-// A command: 1 stop, 2 run in tenths of km/h, 3 choose axle, 4 set scale to zero, 5 lamp; and its argument.
+// A command, its code a number as C has it: 1 stop, 2 run in tenths of km/h, 3 choose axle, 4 set scale to zero, 5 lamp; and its argument.
 #[repr(C)]
 #[derive(Clone, Copy)]
 pub struct CommandParts {

@@ -6,7 +6,8 @@ pub mod calls;
 use readings::{Reading, Side};
 use wire::Refusal;
 
-// A reading: axle 1 to 12; side 0 left, 1 right; force in units of 10 newtons; pressure in hundredths of a bar.
+// A reading, its side a number as C has it: axle 1 to 12; side 0 left, 1 right; force in units of 10 newtons; pressure in hundredths of
+// a bar.
 #[repr(C)]
 #[derive(Clone, Copy)]
 pub struct ReadingParts {
@@ -30,12 +31,12 @@ impl From<Reading> for ReadingParts {
 }
 
 // Refused `code` where a part is out of range.
-impl TryFrom<ReadingParts> for Reading {
+impl TryFrom<&ReadingParts> for Reading {
     type Error = Refusal;
 
-    ghost try_from_gives = { λ parts reading. reading ≡ sided_reading parts };
+    ghost try_from_gives = { λ parts reading. reading ≡ sided_reading parts.now };
 
-    fn try_from(parts: ReadingParts) -> Result<Reading, Refusal> {
+    fn try_from(parts: &ReadingParts) -> Result<Reading, Refusal> {
         let side = match parts.side {
             0 => Side::Left,
             1 => Side::Right,

@@ -12,7 +12,7 @@ const MOST_KIND: u8 = 15;
 
 const MOST_PAYLOAD: u64 = 0xF_FFFF_FFFF;
 
-// What a word of the wire carries besides its check: a kind of 4 bits and a payload of 36.
+// What a word of the wire carries besides its check, in numbers as C has them: a kind of 4 bits and a payload of 36.
 #[repr(C)]
 #[derive(Clone, Copy)]
 pub struct WordParts {
@@ -34,13 +34,16 @@ impl From<Word> for WordParts {
 }
 
 // Refused `code` where the kind or the payload does not fit its field.
-impl TryFrom<WordParts> for Word {
+impl TryFrom<&WordParts> for Word {
     type Error = Refusal;
 
-    ghost try_from_gives = { λ parts word. found_as packed word ≡ packed_word parts };
+    ghost try_from_gives = { λ parts word. found_as packed word ≡ packed_word parts.now };
 
-    fn try_from(parts: WordParts) -> Result<Word, Refusal> {
-        if parts.kind > MOST_KIND || parts.payload > MOST_PAYLOAD {
+    fn try_from(parts: &WordParts) -> Result<Word, Refusal> {
+        if parts.kind > MOST_KIND {
+            return Err(Refusal::Code);
+        }
+        if parts.payload > MOST_PAYLOAD {
             return Err(Refusal::Code);
         }
         Ok(Word {

@@ -11,7 +11,7 @@ use shapes::Shaped;
 use wire::Refusal;
 
 // Makes a link, and offers it the record and performs a round, so many times. Answers the observer afterwards, or what the check
-// of the link refuses.
+// of the link refuses. The link is of the five that `Link::new` takes.
 pub fn exercise<F: Shaped + Drop, B: Shaped + Drop, R: RecordKind + Drop>(
     kind: R,
     record: R::Record,

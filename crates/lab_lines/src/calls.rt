@@ -129,6 +129,6 @@ fn ends_of<F, B, R: RecordKind>(link: &Link<F, B, R>) -> Ends
         state: link.sender().state,
         in_hand: link.kind().pack(&link.sender().in_hand),
         receiver: link.receiver().label,
-        delivered: link.kind().pack(&link.receiver().delivered),
+        delivered: link.held(),
     }
 }

@@ -50,7 +50,8 @@ pub enum OnChannel {
     Discard,
 }
 
-// What a line sets at the ends. It is no fault of the link's own type, since a record comes by its payload, which may be none.
+// What a line sets at the ends. The link's own faults do not serve: a record comes by its payload, which may be none, and what is put
+// on a channel or discarded is asked of a side.
 #[derive(Clone, Copy)]
 pub enum Fault {
     SenderLabel(u8),

@@ -3,7 +3,6 @@ ghost use Rattle.std.specs.Prelude.{◌≡◌};
 ghost use Rattle.model.specs.Models.{model_of};
 ghost use Rattle.model.specs.Disturbances.{disturbed, disturbed_all};
 
-use crate::wire_faults::{discard_back, discard_forward, put_back, put_forward};
 use link::{Fault, Link};
 use records::RecordKind;
 use shapes::Shaped;
@@ -15,16 +14,7 @@ pub fn inflict<F: Shaped, B: Shaped, R: RecordKind>(
 )
     ensures { model_of F.Shaped.shape B.Shaped.shape link.new ≡ disturbed (model_of F.Shaped.shape B.Shaped.shape link.old) fault }
 {
-    let _ = match fault {
-        Fault::SenderLabel(label) => link.set_sender_label(label),
-        Fault::ReceiverLabel(label) => link.set_receiver_label(label),
-        Fault::SenderState(state) => link.set_state(state),
-        Fault::InHand(r) => link.set_in_hand(r),
-        Fault::PutForward(word) => put_forward(link, word),
-        Fault::PutBack(word) => put_back(link, word),
-        Fault::DiscardForward => discard_forward(link),
-        Fault::DiscardBack => discard_back(link),
-    };
+    let _ = link.inflict(fault);
 }
 
 // These faults, one after another.

@@ -14,7 +14,7 @@ use link::Link;
 use records::RecordKind;
 use shapes::Shaped;
 
-// A new link, with the same record at both ends.
+// A new link, with the same record at both ends, of the five that `Link::new` takes.
 pub fn make<F: Shaped, B: Shaped, R: RecordKind>(
     kind: R,
     labels: u16,

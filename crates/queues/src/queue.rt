@@ -2,8 +2,8 @@ ghost use Rattle.std.specs.Prelude.{◌≡◌, ◌<◌, ◌≤◌, length};
 
 mod calls;
 
-// Items in a circular buffer: `load` items from the place `head` on, the oldest first; after the last place comes the
-// first. It is an array with its load beside it, since the library has no heap, and the oldest item goes out without moving the others.
+// Items in a circular buffer: `load` items from the place `head` on, the oldest first; after the last place comes the first. It is an
+// array with its load beside it, since channels are of fixed memory, and the oldest item goes out without moving the others.
 #[derive(Drop)]
 pub(crate) struct Queue<T> {
     pub(crate) items: [T; 64],

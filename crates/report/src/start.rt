@@ -16,7 +16,7 @@ use script::{Kind, Setup, Start};
 use setups::{first_back, first_forward, second_back, second_forward};
 use shapes::Shaped;
 
-// By the set-up.
+// By the set-up. The lines that are read and the page that is written stay two parameters: nothing but `run` looks at both.
 pub(crate) fn by_setup(start: Start, lines: &[u8], page: &mut Page<'_>)
     requires { HasRoom page.old (opened_room (lines_of lines.now)) }
     ensures text { Put page.old (setup_text start (lines_of lines.now)) page.new }

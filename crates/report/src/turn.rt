@@ -36,7 +36,7 @@ fn obey<F: Shaped, B: Shaped, R: RecordKind>(link: &mut Link<F, B, R>, order: Or
             Reply::Hear {
                 heard,
                 reply,
-                payload: held(link),
+                payload: link.held(),
             }
         }
         Order::Settle => Reply::One(b'a', link.settle()),
@@ -48,7 +48,7 @@ fn obey<F: Shaped, B: Shaped, R: RecordKind>(link: &mut Link<F, B, R>, order: Or
                 heard,
                 reply,
                 settled,
-                payload: held(link),
+                payload: link.held(),
             }
         }
         Order::SenderLabel(label) => Reply::One(b'S', link.set_sender_label(label)),
@@ -67,11 +67,4 @@ fn offer<F: Shaped, B: Shaped, R: RecordKind>(
 {
     let record = link.kind().unpack(payload)?;
     link.offer(record)
-}
-
-// The payload of the record that the receiver holds.
-fn held<F, B, R: RecordKind>(link: &Link<F, B, R>) -> u64
-    ensures { result ≡ R.RecordKind.payload link.now.config.kind link.now.receiver.delivered }
-{
-    link.kind().pack(&link.receiver().delivered)
 }

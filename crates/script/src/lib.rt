@@ -7,5 +7,5 @@ pub mod start;
 
 pub use line::parse_line;
 pub use order::Order;
-pub use start::parse::parse_start;
+pub use start::parse::{kind_of, parse_start};
 pub use start::{Kind, Setup, Start};

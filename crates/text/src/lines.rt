@@ -48,13 +48,6 @@ impl<'a> Lines<'a> {
     {
         Lines { rest: text }
     }
-
-    // The lines that are left, as a text.
-    pub fn rest(&self) -> &'a [u8]
-        ensures { result.now ≡ self.now }
-    {
-        self.rest // what no call of `next` gave yet
-    }
 }
 
 impl<'a> Iterator for Lines<'a> {

@@ -8,9 +8,7 @@ use queues::{DelayLine, Ring};
 use relays::Relay;
 use setups::{first_back, first_forward, second_back, second_forward};
 use std::{env, io};
-use trying::{Dice, Row};
-
-const MOST_LABELS: u16 = 256;
+use trying::{Dice, MOST_LABELS, Row};
 
 // A run of more starts says on standard error how far it is.
 const LONG: u64 = 10_000;

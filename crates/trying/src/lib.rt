@@ -7,6 +7,7 @@ pub mod table;
 pub mod trial;
 pub mod watch;
 
+pub use codec::MOST_LABELS;
 pub use dice::Dice;
 pub use table::Row;
 pub use watch::Broken;

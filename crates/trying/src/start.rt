@@ -108,7 +108,7 @@ fn record_word(label: u8, serial: u64) -> u64 {
     let payload = numbered(serial).map_or(0, |reading| low(Readings.pack(&reading), 36));
     Word {
         label,
-        kind: 2,
+        kind: Readings::NUMBER,
         payload,
     }
     .pack()

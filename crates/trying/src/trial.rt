@@ -146,7 +146,7 @@ fn perform<F: Channel, B: Channel>(
         Call::Hear => {
             let (heard, _) = link.hear();
             Seen {
-                delivered: heard.ok().map(|()| delivered(link)),
+                delivered: heard.ok().map(|()| link.held()),
                 ..NOTHING
             }
         }
@@ -161,7 +161,7 @@ fn perform<F: Channel, B: Channel>(
         Call::Round => {
             let (_, (heard, _), settled) = link.round();
             Seen {
-                delivered: heard.ok().map(|()| delivered(link)),
+                delivered: heard.ok().map(|()| link.held()),
                 completed: settled.ok().map(|()| Completion::Unasked),
                 round: true,
                 ..NOTHING
@@ -190,11 +190,6 @@ fn completion<F: Channel, B: Channel>(link: &Link<F, B, Readings>) -> Completion
     } else {
         Completion::Unclean
     }
-}
-
-// The payload of the record that the receiver holds.
-fn delivered<F: Channel, B: Channel>(link: &Link<F, B, Readings>) -> u64 {
-    link.kind().pack(&link.receiver().delivered)
 }
 
 // The rounds that complete an exchange for sure, by the losses left now: one for each of them and one more, times what is needed

@@ -6,7 +6,8 @@ ghost use Rattle.trying.specs.declared.watch.Completion.TheVariants.{Unclean};
 use link::Observer;
 use std::fmt;
 
-// How an exchange was completed: whether the link was clean right then, where that could be asked.
+// How an exchange was completed: whether the link was clean right then, where that could be asked. In words, since an option of an
+// option of a flag says none of the three.
 #[derive(Clone, Copy)]
 pub enum Completion {
     Clean,

@@ -15,7 +15,7 @@ pub extern "C" fn gelmuska_reading_pack(parts: &ReadingParts, payload: &mut u64)
     ensures status { result ≡ answer_of (packed_reading parts.now) }
     ensures payload { payload.new ≡ after (packed_reading parts.now) payload.old }
 {
-    let reading = Reading::try_from(*parts);
+    let reading = Reading::try_from(parts);
     give(reading.map(|reading| Readings.pack(&reading)), payload)
 }
 

@@ -12,8 +12,8 @@ use exercise::exercise;
 use setups::{first_back, first_forward, second_back, second_forward};
 use wire::Refusal;
 
-// Makes a link of commands over a standard set-up, 1 or 2, with so many labels; offers it the command to stop and performs a round,
-// so many times. Refused `size` where there is no such set-up, and as the check of the link refuses.
+// Makes a link of commands over a standard set-up, 1 or 2 (a number, as C has it), with so many labels; offers it the command to stop
+// and performs a round, so many times. Refused `size` where there is no such set-up, and as the check of the link refuses.
 #[unsafe(no_mangle)]
 pub extern "C" fn gelmuska_rounds(
     setup: u8,

@@ -14,7 +14,7 @@ pub extern "C" fn gelmuska_word_pack(parts: &WordParts, word: &mut u64) -> u32
     ensures status { result ≡ answer_of (packed_word parts.now) }
     ensures word { word.new ≡ after (packed_word parts.now) word.old }
 {
-    give(Word::try_from(*parts).map(Word::pack), word)
+    give(Word::try_from(parts).map(Word::pack), word)
 }
 
 // What 64 bits carry. Refused `spoilt` where they are not whole.

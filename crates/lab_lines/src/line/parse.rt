@@ -2,7 +2,7 @@
 use super::{Fault, Line, Making, OnChannel, Order, Pair, Question, Side, Sizes};
 use fields::Fields;
 use link::{Call, State};
-use script::Kind;
+use script::kind_of;
 
 // What a line asks for; nothing where it has no listed form.
 pub fn parse_line(line: &[u8]) -> Option<Line> {
@@ -23,11 +23,10 @@ fn making(fields: &mut Fields<'_>) -> Option<Making> {
         5 => Pair::LossOverRelay,
         _ => return None,
     };
-    let kind = match fields.word()? {
-        b"C" => Kind::Commands,
-        b"G" => Kind::Readings,
-        _ => return None,
+    let [letter] = fields.word()? else {
+        return None;
     };
+    let kind = kind_of(*letter)?;
     let labels = number(fields)?;
     let sizes = sizes(fields)?;
     Some(Making {

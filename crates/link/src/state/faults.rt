@@ -1,5 +1,5 @@
 // Fault calls: what a brown-out may do to the ends and the wire. An accepted one starts the observer anew. Each channel has calls of
-// its own, since the two are of two types: one call with a side as an argument would be a match over both.
+// its own, since the two are of two types: one call with a side as an argument would be a match over both. So has each part of an end.
 ghost use Rattle.std.specs.Prelude.{◌≡◌, Ok};
 ghost use Rattle.link.specs.Faults.{with_sender, with_receiver, RawForward, RawBack, DiscardForward, DiscardBack, Inflicted};
 ghost use Rattle.channel.specs.Behaviours.{behaviour_of};
@@ -8,7 +8,7 @@ ghost use Rattle.link.specs.States.{state_of};
 use super::Link;
 use crate::calls::Fault;
 use channel::Channel;
-use ends::{Observer, State};
+use ends::State;
 use records::RecordKind;
 use wire::Refusal;
 
@@ -18,7 +18,7 @@ impl<F: Channel, B: Channel, R: RecordKind> Link<F, B, R> {
         ensures after { state_of self.new ≡ with_sender (state_of self.old) (record { label = label; state = self.old.sender.state; in_hand = self.old.sender.in_hand }) }
     {
         self.sender.label = label;
-        self.observer = Observer::new();
+        self.count_anew();
         Ok(())
     }
 
@@ -27,7 +27,7 @@ impl<F: Channel, B: Channel, R: RecordKind> Link<F, B, R> {
         ensures after { state_of self.new ≡ with_receiver (state_of self.old) (record { label = label; delivered = self.old.receiver.delivered }) }
     {
         self.receiver.label = label;
-        self.observer = Observer::new();
+        self.count_anew();
         Ok(())
     }
 
@@ -36,7 +36,7 @@ impl<F: Channel, B: Channel, R: RecordKind> Link<F, B, R> {
         ensures after { state_of self.new ≡ with_sender (state_of self.old) (record { label = self.old.sender.label; state = state; in_hand = self.old.sender.in_hand }) }
     {
         self.sender.state = state;
-        self.observer = Observer::new();
+        self.count_anew();
         Ok(())
     }
 
@@ -45,7 +45,7 @@ impl<F: Channel, B: Channel, R: RecordKind> Link<F, B, R> {
         ensures after { state_of self.new ≡ with_sender (state_of self.old) (record { label = self.old.sender.label; state = self.old.sender.state; in_hand = r }) }
     {
         self.sender.in_hand = r;
-        self.observer = Observer::new();
+        self.count_anew();
         Ok(())
     }
 
@@ -54,7 +54,7 @@ impl<F: Channel, B: Channel, R: RecordKind> Link<F, B, R> {
         ensures { RawForward (behaviour_of F.Channel) (state_of self.old) word result (state_of self.new) }
     {
         self.forward.put(word)?;
-        self.observer = Observer::new();
+        self.count_anew();
         Ok(())
     }
 
@@ -63,7 +63,7 @@ impl<F: Channel, B: Channel, R: RecordKind> Link<F, B, R> {
         ensures { RawBack (behaviour_of B.Channel) (state_of self.old) word result (state_of self.new) }
     {
         self.back.put(word)?;
-        self.observer = Observer::new();
+        self.count_anew();
         Ok(())
     }
 
@@ -72,7 +72,7 @@ impl<F: Channel, B: Channel, R: RecordKind> Link<F, B, R> {
         ensures { DiscardForward (behaviour_of F.Channel) (state_of self.old) result (state_of self.new) }
     {
         self.forward.take()?;
-        self.observer = Observer::new();
+        self.count_anew();
         Ok(())
     }
 
@@ -81,7 +81,7 @@ impl<F: Channel, B: Channel, R: RecordKind> Link<F, B, R> {
         ensures { DiscardBack (behaviour_of B.Channel) (state_of self.old) result (state_of self.new) }
     {
         self.back.take()?;
-        self.observer = Observer::new();
+        self.count_anew();
         Ok(())
     }
 

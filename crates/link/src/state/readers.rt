@@ -6,6 +6,13 @@ use ends::{Observer, Receiver, Sender};
 use records::RecordKind;
 
 impl<F, B, R: RecordKind> Link<F, B, R> {
+    // The payload of the record that the receiver holds.
+    pub fn held(&self) -> u64
+        ensures { result ≡ R.RecordKind.payload self.now.config.kind self.now.receiver.delivered }
+    {
+        self.kind().pack(&self.receiver.delivered)
+    }
+
     pub fn kind(&self) -> &R
         ensures { result.now ≡ self.now.config.kind }
     {

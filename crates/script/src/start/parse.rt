@@ -46,8 +46,8 @@ fn setup_of(digit: u8) -> Option<Setup>
     }
 }
 
-// Each kind declares its own letter.
-fn kind_of(letter: u8) -> Option<Kind>
+// The kind of a letter: each kind declares its own.
+pub fn kind_of(letter: u8) -> Option<Kind>
     ensures { result ≡ kind_of letter }
 {
     match letter {

@@ -1,0 +1,6 @@
+use Rattle.std.proofs.Common.{length}
+use Rattle.text.specs.Lines.{lines_of}
+use Rattle.lab_lines.proofs.serving.Sheet.skip.Given as goal
+
+abbrev pub decreases-loop-line : goal.decreases-loop-line
+decreases-loop-line l = length (lines_of l.self.lines)

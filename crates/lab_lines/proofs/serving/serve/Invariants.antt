@@ -1,9 +1,0 @@
-use Rattle.std.proofs.Common.{◌≤◌, length}
-use Rattle.text.specs.Lines.{lines_of}
-use Rattle.lab_lines.proofs.serving.serve.Given as goal
-
-abbrev pub invariant-loop-line : goal.invariant-loop-line
-invariant-loop-line g l = length (lines_of l.lines) ≤ length (lines_of l.fn.lines)
-
-abbrev pub decreases-loop-line : goal.decreases-loop-line
-decreases-loop-line g l = length (lines_of l.lines)
