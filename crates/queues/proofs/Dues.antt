@@ -1,16 +1,9 @@
 -- Words with due numbers: none is due later than the delay, and a tick lowers every due number. Assumes nothing.
-use Rattle.std.proofs.Common.{◌≡◌, ℕ, ◌+◌, ◌-◌, ◌≤◌, List, [], ◌∷◌, ◌++◌, map, All, take, drop, sym, refl, ap, ap₂, ◌∙◌, arith}
-use Rattle.std.proofs.lemmas.List.{take-map, drop-map, map-append}
+use Rattle.std.proofs.Common.{◌≡◌, ℕ, ◌+◌, ◌-◌, ◌≤◌, List, [], ◌∷◌, map, All, refl, ap, ap₂, arith}
 use Rattle.std.proofs.lemmas.List.Elements.{All-map, All-tail}
 use Rattle.queues.specs.declared.line.Timed.{Timed}
-use Rattle.queues.specs.Buffers.{window, rest}
+use Rattle.queues.specs.Buffers.{rest}
 use Rattle.queues.specs.Lines.{sooner, dues_at, lowered}
-
--- what is done to each place is done to each item held
-pub window_map : {T U : Type 0} (f : T → U) (buffer : List T) (at n : ℕ) → window (map f buffer) at n ≡ map f (window buffer at n)
-window_map f buffer at n =
-    ap (take n) (ap₂ ◌++◌ (drop-map f at buffer) (take-map f at buffer) ∙ sym (map-append f (drop at buffer) (take at buffer)))
-    ∙ take-map f n (drop at buffer ++ take at buffer)
 
 pub soon_rest : (latest : ℕ) (items : List Timed) → All (λ item. item.ready ≤ latest) items → All (λ item. item.ready ≤ latest) (rest items)
 soon_rest latest [] h = h

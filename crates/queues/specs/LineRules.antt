@@ -1,7 +1,7 @@
 -- A delay line keeps the channel rules. Assumes nothing.
-use Rattle.std.specs.Prelude.{◌≡◌, ℕ, ◌+◌, ◌-◌, ◌<◌, ◌≤◌, Bool, true, false, ◌⊎◌, List, [], ◌∷◌, ◌++◌, length, All, Result, ◌==◌, ◌≢◌, nat_lt, refl}
+use Rattle.std.specs.Prelude.{◌≡◌, ℕ, ◌+◌, ◌-◌, ◌<◌, ◌≤◌, Bool, true, false, ◌⊎◌, List, [], ◌∷◌, ◌++◌, length, map, All, Result, ◌==◌, ◌≢◌, nat_lt, refl}
 use Rattle.std.proofs.Common.{sym, ap, ap₂, subst, subst₂, ◌∙◌, inl, inr, arith, ltb-true, ltb-false, lt-ltb, le-ltb, eqb-true}
-use Rattle.std.proofs.lemmas.List.{length-map, nil_from_length}
+use Rattle.std.proofs.lemmas.List.{nil_from_length}
 use Rattle.std.proofs.lemmas.List.Elements.{All-head}
 use Rattle.std.proofs.lemmas.Bool.{and_parts, and_cases, eqb-false}
 use Rattle.wire.specs.Refusals.{Answer}
@@ -12,8 +12,8 @@ use Rattle.channel.specs.Sublists.{sublist_same}
 use Rattle.channel.specs.WaitRules.{wait-counted}
 use Rattle.queues.specs.declared.line.DelayLine.{DelayLine}
 use Rattle.queues.specs.declared.line.Timed.{Timed}
-use Rattle.queues.specs.Buffers.{held, first}
-use Rattle.queues.specs.BufferRules.{held_within, first_rest}
+use Rattle.queues.specs.Buffers.{window, held, first}
+use Rattle.queues.specs.BufferRules.{length-window, window-map, first_rest}
 use Rattle.queues.specs.Lines.{line_words, dues_at, line_dues, line_meaning, line_means, lowered, LinePut, line_ready, LineTake, SameLine, line_behaviour}
 
 first_below : (now delay : ℕ) (items : List Timed) → All (λ item. item.ready ≤ now + delay) items → first (dues_at now items) ≤ delay
@@ -42,12 +42,22 @@ line-stands words dues capacity delay least within same soon = record {
   full = λ e. le-ltb _ _ (omega arith);
 }
 
+-- the words and their due numbers are the windows of what stands at the places
+pub words-window : (s : DelayLine) → window (map (λ item. item.word) s.queue.items) s.queue.head s.queue.load ≡ line_words s
+words-window s = window-map (λ item. item.word) s.queue
+
+pub dues-window : (s : DelayLine) → window (map (λ item. item.ready - s.ticks) s.queue.items) s.queue.head s.queue.load ≡ line_dues s
+dues-window s = window-map (λ item. item.ready - s.ticks) s.queue
+
+length-words : (s : DelayLine) → length (line_words s) ≡ s.queue.load
+length-words s = ap length (sym (words-window s)) ∙ length-window (map (λ item. item.word) s.queue.items) s.queue.head s.queue.load
+
 numbered : (s : DelayLine) → length (line_dues s) ≡ length (line_words s)
-numbered s = length-map (held s.queue) (λ item. item.ready - s.ticks) ∙ sym (length-map (held s.queue) (λ item. item.word))
+numbered s = ap length (sym (dues-window s)) ∙ length-window (map (λ item. item.ready - s.ticks) s.queue.items) s.queue.head s.queue.load ∙ sym (length-words s)
 
 line-standing : (s : DelayLine) → Standing (line_means s)
 line-standing s =
-    line-stands (line_words s) (line_dues s) s.queue.capacity s.delay s.queue.least (omega (arith, length-map (held s.queue) (λ item. item.word), held_within s.queue)) (numbered s)
+    line-stands (line_words s) (line_dues s) s.queue.capacity s.delay s.queue.least (omega (arith, length-words s, s.queue.within)) (numbered s)
     (first_below s.ticks s.delay (held s.queue) s.soon)
 
 -- words and due numbers after a call, at the same capacity and delay

@@ -9,7 +9,7 @@ use Rattle.channel.specs.Rules.{Put, Take, Tick, ChannelRules}
 use Rattle.channel.specs.Sublists.{sublist_same}
 use Rattle.queues.specs.declared.ring.Ring.{Ring}
 use Rattle.queues.specs.Buffers.{first}
-use Rattle.queues.specs.BufferRules.{held_within, first_rest}
+use Rattle.queues.specs.BufferRules.{length-window, window-held, first_rest}
 use Rattle.queues.specs.Rings.{ring_words, ring_meaning, ring_means, RingPut, RingTake, ring_behaviour}
 
 pub ring-stands : (words : List ℕ) (capacity : ℕ) → 1 ≤ capacity → length words ≤ capacity → Standing (ring_meaning words capacity)
@@ -23,7 +23,7 @@ ring-stands words capacity least within = record {
 }
 
 ring-standing : (s : Ring) → Standing (ring_means s)
-ring-standing s = ring-stands (ring_words s) s.queue.capacity s.queue.least (held_within s.queue)
+ring-standing s = ring-stands (ring_words s) s.queue.capacity s.queue.least (omega (arith, length-window s.queue.items s.queue.head s.queue.load, ap length (window-held s.queue), s.queue.within))
 
 pub ring-put : (words : List ℕ) (capacity : ℕ) (b : Bool) (w : ℕ) (r : Answer) (words' : List ℕ) → nat_lt (length words) capacity ≡ b → RingPut b words w r words' → Put (ring_meaning words capacity) w r (ring_meaning words' capacity)
 ring-put words capacity true w r words' e h =

@@ -28,7 +28,7 @@ part : {before now next : Page} {whole : List ℕ} (s t : List ℕ) → Put now 
 part s t w l = record { done = l.done ++ s; put = both l.put w; text = append_assoc l.done s t ∙ l.text }
 
 -- all that is left is put
-whole-put : {before now next : Page} {whole : List ℕ} (text : List ℕ) → Put now text next → Partly before now text whole → Put before whole next
+pub whole-put : {before now next : Page} {whole : List ℕ} (text : List ℕ) → Put now text next → Partly before now text whole → Put before whole next
 whole-put text w l = named _ _ l.text (both l.put w)
 
 reply-most : (r : Reply) → reply_room r ≤ 24

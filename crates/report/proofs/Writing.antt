@@ -9,14 +9,14 @@ use Rattle.text.specs.Hex.{hex_digit, hex_digits}
 use Rattle.report.specs.declared.page.Page.{Page}
 use Rattle.report.specs.Pages.{written, Room, Wrote, HasRoom, Put}
 
-length-written : (p : List ℕ) (at : ℕ) (s : List ℕ) → Room p at s → length (written p at s) ≡ length p
+pub length-written : (p : List ℕ) (at : ℕ) (s : List ℕ) → Room p at s → length (written p at s) ≡ length p
 length-written p at s h = length-paste p at s (length s) h (le_refl (length s))
 
-then : (p : List ℕ) (at : ℕ) (s t : List ℕ) → at ≤ length p → written (written p at s) (at + length s) t ≡ written p at (s ++ t)
+pub then : (p : List ℕ) (at : ℕ) (s t : List ℕ) → at ≤ length p → written (written p at s) (at + length s) t ≡ written p at (s ++ t)
 then p at s t h = paste-paste p at s t (length s) (length t) refl refl h ∙ ap (paste p at (s ++ t)) (sym (length-append s t))
 
 -- one text, and another behind it
-chain : {p q r : List ℕ} {at m n : ℕ} {s t : List ℕ} → Wrote p at s q m → Wrote q m t r n → Wrote p at (s ++ t) r n
+pub chain : {p q r : List ℕ} {at m n : ℕ} {s t : List ℕ} → Wrote p at s q m → Wrote q m t r n → Wrote p at (s ++ t) r n
 chain {p} {q} {r} {at} {m} {n} {s} {t} a b =
     let wide : length q ≡ length p = ap length a.page ∙ length-written p at s a.within in
     let both : length (s ++ t) ≡ length s + length t = length-append s t in
@@ -37,6 +37,10 @@ one_long n h = ap length (decimal_digit n h)
 
 pub one_longer : (n : ℕ) → 10 ≤ n → n < 2 ^ 16 → length (decimal n) ≡ length (decimal (n / 10)) + 1
 one_longer n h k = ap length (decimal_step n h (omega arith)) ∙ length_push (decimal (n / 10)) (48 + n % 10)
+
+-- a number of two digits
+pub two_digits : (n : ℕ) → 10 ≤ n → n < 100 → ((48 + n / 10) ∷ []) ++ ((48 + n % 10) ∷ []) ≡ decimal n
+two_digits n h k = ap (λ ds. ds ++ ((48 + n % 10) ∷ [])) (digit_is (n / 10) (omega arith)) ∙ digits_are n h (omega arith)
 
 -- a number of at most two digits, one of 16 bits
 pub two_long : (n : ℕ) → n ≤ 14 → length (decimal n) ≤ 2

@@ -1,5 +1,6 @@
 pub mod Pages
 pub mod Replies
+pub mod Anew
 pub mod Lines
 pub mod Rooms
 pub mod Starts

@@ -1,10 +1,13 @@
 // One line of a script, on a link.
 ghost use Rattle.std.specs.Prelude.{◌≡◌};
+ghost use Rattle.link.specs.States.{state_of};
+ghost use Rattle.report.specs.Anew.{anew_after};
 ghost use Rattle.model.specs.Models.{model_of};
 ghost use Rattle.report.specs.Lines.{outcome, offered, obeyed, answered};
 ghost use Rattle.report.specs.declared.reply.Reply.TheVariants.{One};
 
 use crate::reply::Reply;
+use channel::Channel;
 use link::Link;
 use records::RecordKind;
 use script::Order;
@@ -24,7 +27,6 @@ pub(crate) fn answer<F: Shaped, B: Shaped, R: RecordKind>(
     }
 }
 
-// A fault that was accepted starts the observer anew, as a handover does: from there on the link recovers.
 fn obey<F: Shaped, B: Shaped, R: RecordKind>(link: &mut Link<F, B, R>, order: Order) -> Reply
     ensures { outcome result (model_of F.Shaped.shape B.Shaped.shape link.new) ≡ obeyed R.RecordKind.NUMBER R.RecordKind.payload R.RecordKind.reads order (model_of F.Shaped.shape B.Shaped.shape link.old) }
 {
@@ -51,10 +53,22 @@ fn obey<F: Shaped, B: Shaped, R: RecordKind>(link: &mut Link<F, B, R>, order: Or
                 payload: link.held(),
             }
         }
-        Order::SenderLabel(label) => Reply::One(b'S', link.set_sender_label(label)),
-        Order::ReceiverLabel(label) => Reply::One(b'R', link.set_receiver_label(label)),
-        Order::RawForward(word) => Reply::One(b'F', link.put_forward(word)),
-        Order::RawBack(word) => Reply::One(b'B', link.put_back(word)),
+        Order::SenderLabel(label) => {
+            let answer = link.set_sender_label(label);
+            handed_over(link, b'S', answer)
+        }
+        Order::ReceiverLabel(label) => {
+            let answer = link.set_receiver_label(label);
+            handed_over(link, b'R', answer)
+        }
+        Order::RawForward(word) => {
+            let answer = link.put_forward(word);
+            handed_over(link, b'F', answer)
+        }
+        Order::RawBack(word) => {
+            let answer = link.put_back(word);
+            handed_over(link, b'B', answer)
+        }
     }
 }
 
@@ -67,4 +81,19 @@ fn offer<F: Shaped, B: Shaped, R: RecordKind>(
 {
     let record = link.kind().unpack(payload)?;
     link.offer(record)
+}
+
+// After a fault that was accepted the link is handed over, so that from there on it recovers.
+fn handed_over<F: Channel, B: Channel, R: RecordKind>(
+    link: &mut Link<F, B, R>,
+    letter: u8,
+    answer: Result<(), Refusal>,
+) -> Reply
+    ensures reply { result ≡ One letter answer }
+    ensures after { state_of link.new ≡ anew_after answer (state_of link.old) }
+{
+    if answer.is_ok() {
+        link.handover();
+    }
+    Reply::One(letter, answer)
 }

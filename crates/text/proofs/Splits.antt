@@ -3,7 +3,7 @@ use Rattle.std.proofs.Common.{◌≡◌, ℕ, suc, ◌+◌, ◌<◌, Bool, true,
 use Rattle.std.proofs.lemmas.List.{length-drop}
 use Rattle.text.specs.Lines.{line_length, line_of, rest_of, before, lines_of}
 
-lines_split : (text : List ℕ) → 0 < length text → lines_of text ≡ line_of text ∷ lines_of (rest_of text)
+pub lines_split : (text : List ℕ) → 0 < length text → lines_of text ≡ line_of text ∷ lines_of (rest_of text)
 lines_split [] h = absurd (omega arith)
 lines_split (c ∷ cs) h = at (eqb c 10) (more cs (lines_split cs))
   where

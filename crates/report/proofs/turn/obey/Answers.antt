@@ -20,7 +20,11 @@ returns-in-Round g c =
     rw c.in-Round.is (round-line _ _ _ g.met.F.Shaped.moves g.met.B.Shaped.moves _ _ r.0 r.1.0 r.1.1 r.2 c.held-in-Round.result c.held-in-Round.ensures c.round-sent.ensures)
 
 pub returns-in-RawForward : goal.returns-in-RawForward
-returns-in-RawForward g c = rw c.in-RawForward.is (forward-line g.R.RecordKind.NUMBER g.R.RecordKind.payload g.R.RecordKind.reads g.met.F.Shaped.moves g.met.B.Shaped.moves _ _ c.in-RawForward.word c.put_forward.result c.put_forward.ensures)
+returns-in-RawForward g c =
+    let h = c.handed_over-in-RawForward in
+    rw c.in-RawForward.is (forward-line g.R.RecordKind.NUMBER g.R.RecordKind.payload g.R.RecordKind.reads g.met.F.Shaped.moves g.met.B.Shaped.moves _ _ c.in-RawForward.word c.put_forward-answer.result h.result _ h.ensures.reply h.ensures.after c.put_forward-answer.ensures)
 
 pub returns-in-RawBack : goal.returns-in-RawBack
-returns-in-RawBack g c = rw c.in-RawBack.is (back-line g.R.RecordKind.NUMBER g.R.RecordKind.payload g.R.RecordKind.reads g.met.F.Shaped.moves g.met.B.Shaped.moves _ _ c.in-RawBack.word c.put_back.result c.put_back.ensures)
+returns-in-RawBack g c =
+    let h = c.handed_over-in-RawBack in
+    rw c.in-RawBack.is (back-line g.R.RecordKind.NUMBER g.R.RecordKind.payload g.R.RecordKind.reads g.met.F.Shaped.moves g.met.B.Shaped.moves _ _ c.in-RawBack.word c.put_back-answer.result h.result _ h.ensures.reply h.ensures.after c.put_back-answer.ensures)
